@@ -52,7 +52,8 @@ pub record Found (met : ℕ → Option ℕ) (at : ℕ) : Type 0 where
 earlier : (met : ℕ → Option ℕ) (at : ℕ) → at ≤ 1_000_000 → (rule : Option ℕ) → met at ≡ rule → Found met (at + 1) → Found met at
 earlier met at most None none later = record {
   runs = later.runs;
-  are = IsRuns-earlier met at (at + 1) later.runs (omega arith) (omega arith) (λ conn from to. let same : conn ≡ at = omega arith in ap met same ∙ none) later.are;
+  are = IsRuns-earlier met at (at + 1) later.runs (omega arith) (omega arith) (λ conn from to. let same : conn ≡ at = omega arith in ap met same ∙ none)
+      later.are;
 }
 earlier met at most (Some rule) some later =
     let run : Run = record { first = at; last = at; rule = rule } in record {

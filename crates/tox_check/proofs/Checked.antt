@@ -45,7 +45,8 @@ module _ (proxies : List Proxy) (script : Rules) (verbose : Bool) where
 
   module _ {W : Type 0} {sink : Ghosts W} {R : ℕ} (runs : List ℕ → List Run) (are : AreRuns proxies script runs) where
     -- the lines broke off
-    pub StopsCheck-lines : {fault : PrintPickFault} {old new : SizedPrinter W R} → old.bytes.items ≡ [] → PrintsUnless sink has_failed {A = ℕ} (Err fault) old new (lines runs)
+    pub StopsCheck-lines : {fault : PrintPickFault} {old new : SizedPrinter W R} → old.bytes.items ≡ []
+        → PrintsUnless sink has_failed {A = ℕ} (Err fault) old new (lines runs)
         → StopsCheck proxies script verbose (sink.written old.writer.now) (sink.written new.writer.now) (sink.failed new.writer.now) fault
     StopsCheck-lines empty front = record {
       text = _;
@@ -61,7 +62,14 @@ module _ (proxies : List Proxy) (script : Rules) (verbose : Bool) where
         → StopsCheck proxies script verbose (sink.written first.writer.now) (sink.written new.writer.now) (sink.failed new.writer.now) WriteFault
     StopsCheck-last (Ok done) failed empty printed front = cc
     StopsCheck-last (Err fault) failed empty printed front =
-        record { text = _; warned = _; checks = checks runs are _ refl; left = AppendsFront-broken empty (Prints-then printed front); warning_text = front.leaves }
+        record {
+          text = _;
+          warned = _;
+          checks = checks runs are _ refl;
+          left = AppendsFront-broken empty (Prints-then printed front);
+          warning_text =
+              front.leaves;
+        }
 
     -- the lines and the last one
     printed-ended : {warned : ℕ} (ended : Result (Unit {0}) EndFault) {first old new : SizedPrinter W R} → is_err ended ≡ false
@@ -71,15 +79,18 @@ module _ (proxies : List Proxy) (script : Rules) (verbose : Bool) where
     printed-ended (Err fault) worked printed last = cc
 
     -- what waited was not written
-    pub StopsCheck-end : {warned : ℕ} (ended : Result (Unit {0}) EndFault) (fault : EndFault) {first old new : SizedPrinter W R} (last : W) → is_err ended ≡ false → first.bytes.items ≡ []
-        → PrintsUnless sink has_failed (Ok warned) first old (lines runs) → Prints sink ended old new (end_text verbose proxies script) → Writes (Err fault) (sink.written new.writer.now) (sink.written last) (sink.failed last) new.bytes.items
+    pub StopsCheck-end : {warned : ℕ} (ended : Result (Unit {0}) EndFault) (fault : EndFault) {first old new : SizedPrinter W R} (last : W)
+        → is_err ended ≡ false → first.bytes.items ≡ []
+        → PrintsUnless sink has_failed (Ok warned) first old (lines runs) → Prints sink ended old new (end_text verbose proxies script)
+        → Writes (Err fault) (sink.written new.writer.now) (sink.written last) (sink.failed last) new.bytes.items
         → StopsCheck proxies script verbose (sink.written first.writer.now) (sink.written last) (sink.failed last) WriteFault
     StopsCheck-end ended fault last worked empty printed last_line wrote =
         let front = Writes-finished (Err fault) last empty (printed-ended ended worked printed last_line) wrote in
         record { text = _; warned = _; checks = checks runs are _ refl; left = front.0; warning_text = front.1 }
 
     -- all was written
-    pub PrintsCheck-end : {warned : ℕ} (ended : Result (Unit {0}) EndFault) {first old new : SizedPrinter W R} (last : W) → is_err ended ≡ false → first.bytes.items ≡ [] → warned ≡ held (length (check_lines proxies script runs))
+    pub PrintsCheck-end : {warned : ℕ} (ended : Result (Unit {0}) EndFault) {first old new : SizedPrinter W R} (last : W) → is_err ended ≡ false
+        → first.bytes.items ≡ [] → warned ≡ held (length (check_lines proxies script runs))
         → PrintsUnless sink has_failed (Ok warned) first old (lines runs) → Prints sink ended old new (end_text verbose proxies script)
         → Writes {E = EndFault} (Ok tt) (sink.written new.writer.now) (sink.written last) (sink.failed last) new.bytes.items
         → PrintsCheck proxies script verbose (sink.written first.writer.now) (sink.written last) warned

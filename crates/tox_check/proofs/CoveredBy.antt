@@ -1,5 +1,6 @@
 -- The rule that a connection meets covers it.
-use Rattle.std.proofs.Common.{◌≡◌, ℕ, zero, suc, ◌+◌, ◌≤◌, ◌&&◌, Bool, true, false, cond, List, [], ◌∷◌, nat_le, slice_get, Option, None, Some, arith, refl, sym, ap, ◌∙◌}
+use Rattle.std.proofs.Common.{◌≡◌, ℕ, zero, suc, ◌+◌, ◌≤◌, ◌&&◌, Bool, true, false, cond, List, [], ◌∷◌, nat_le, slice_get, Option, None, Some, arith, refl}
+use Rattle.std.proofs.Common.{sym, ap, ◌∙◌}
 use Rattle.std.specs.List.{position_from}
 use Rattle.std.specs.Prelude.{option_map}
 use Rattle.std.specs.Str.{bytes_eq}
@@ -21,16 +22,19 @@ position_from-begins test n (x ∷ xs) i found = at (test x) (λ later. let h = 
     at false later found = later found
 
 -- the element at the first index that passes does
-position_from-passes : {X : Type 0} (test : X → Bool) (n : ℕ) (xs : List X) (k : ℕ) (x : X) → position_from test n xs ≡ Some (n + k) → slice_get xs k ≡ Some x → test x ≡ true
+position_from-passes : {X : Type 0} (test : X → Bool) (n : ℕ) (xs : List X) (k : ℕ) (x : X) → position_from test n xs ≡ Some (n + k) → slice_get xs k ≡ Some x
+    → test x ≡ true
 position_from-passes test n [] k x found is = absurd (cc)
 position_from-passes test n (y ∷ ys) zero x found is = at (test y) refl found
   where
     at : (passes : Bool) → test y ≡ passes → cond passes (Some n) (position_from test (n + 1) ys) ≡ Some (n + 0) → test x ≡ true
     at true passes found = let same : y ≡ x = cc in ap test (sym same) ∙ passes
     at false passes found = let past : n + 1 ≤ n + 0 = position_from-begins test (n + 1) ys (n + 0) found in absurd (omega arith)
-position_from-passes test n (y ∷ ys) (suc k) x found is = at (test y) (λ later. let more : n + suc k ≡ (n + 1) + k = omega arith in position_from-passes test (n + 1) ys k x (later ∙ ap (λ i. Some i) more) is) found
+position_from-passes test n (y ∷ ys) (suc k) x found is = at (test y) (λ later. let more : n + suc k ≡ (n + 1) + k = omega arith in
+    position_from-passes test (n + 1) ys k x (later ∙ ap (λ i. Some i) more) is) found
   where
-    at : (passes : Bool) → (position_from test (n + 1) ys ≡ Some (n + suc k) → test x ≡ true) → cond passes (Some n) (position_from test (n + 1) ys) ≡ Some (n + suc k) → test x ≡ true
+    at : (passes : Bool) → (position_from test (n + 1) ys ≡ Some (n + suc k) → test x ≡ true)
+        → cond passes (Some n) (position_from test (n + 1) ys) ≡ Some (n + suc k) → test x ≡ true
     at true later found = let same : n ≡ n + suc k = cc in absurd (omega arith)
     at false later found = later found
 
@@ -55,7 +59,8 @@ covers-own name conn rule covered =
     }
 
 -- a connection meets only a rule that covers it
-pub covering_number-own : (name : List ℕ) (conn : ℕ) (script : Rules) (number : ℕ) (rule : Rule) → covering_number name conn script ≡ Some number → slice_get script.rules number ≡ Some rule → IsOwn name conn rule
+pub covering_number-own : (name : List ℕ) (conn : ℕ) (script : Rules) (number : ℕ) (rule : Rule) → covering_number name conn script ≡ Some number
+    → slice_get script.rules number ≡ Some rule → IsOwn name conn rule
 covering_number-own name conn script number rule found is =
     let from : number ≡ 0 + number = omega arith in
     covers-own name conn rule (position_from-passes (covers name conn) 0 script.rules number rule (found ∙ ap (λ i. Some i) from) is)

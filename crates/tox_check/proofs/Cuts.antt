@@ -12,7 +12,8 @@ abbrev run_of : ℕ → ℕ → ℕ → Run
 run_of first last rule = record { first = first; last = last; rule = rule }
 
 pub within-append : (first last : ℕ) (xs ys : List Run) → within first last (xs ++ ys) ≡ within first last xs ++ within first last ys
-within-append first last xs ys = ap (map (cut_to_range first last)) (filter-append (reaches first last) xs ys) ∙ map-append (cut_to_range first last) (filter (reaches first last) xs) (filter (reaches first last) ys)
+within-append first last xs ys = ap (map (cut_to_range first last)) (filter-append (reaches first last) xs ys)
+    ∙ map-append (cut_to_range first last) (filter (reaches first last) xs) (filter (reaches first last) ys)
 
 pub within_none : (first last from to : ℕ) (runs : List Run) → All (Lies from to) runs → (to < first) ⊎ (last < from) → within first last runs ≡ []
 within_none first last from to [] each apart = refl

@@ -37,6 +37,7 @@ slicing-orders size micros state (Reset t) = refl
 pub final-kept : (from until : ℕ) (giving : Giving) (end : Ending) (p c n b : ℕ) → OrdersFinals giving → in_order p (final_of end) ≡ final_of end
     → flow_from (during from until (counted giving)) (open_state p c n b) (final_of end ∷ []) ≡ final_of end ∷ []
 final-kept from until giving end p c n b orders same =
-    ap (λ (answer : Answer). answer.given ++ []) (during-inside from until (counted giving) (open_state p c n b) (final_of end) (is_outside-final from until end))
+    ap (λ (answer : Answer). answer.given ++ []) (during-inside from until (counted giving) (open_state p c n b) (final_of end)
+    (is_outside-final from until end))
     ∙ ap (λ (given : List Item). given ++ []) (orders (open_state p c n b) end)
     ∙ ap (λ (item : Item). item ∷ []) same

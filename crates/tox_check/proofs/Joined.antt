@@ -5,7 +5,8 @@ use Rattle.tox_check.specs.Runs.{IsMetRun, IsRuns, MeetNone, ahead, joins}
 use Rattle.tox_check.specs.declared.run.Run.{Run}
 
 -- connections before the runs that meet no rule
-pub IsRuns-earlier : (met : ℕ → Option ℕ) (from at : ℕ) (runs : List Run) → from ≤ at → at ≤ 1_000_001 → MeetNone met from at → IsRuns met at runs → IsRuns met from runs
+pub IsRuns-earlier : (met : ℕ → Option ℕ) (from at : ℕ) (runs : List Run) → from ≤ at → at ≤ 1_000_001 → MeetNone met from at → IsRuns met at runs
+    → IsRuns met from runs
 IsRuns-earlier met from at [] by most none runs = λ conn begins ends.
     elim (leb_tells at conn) [
       | inl behind ↦ runs conn (omega arith) ends
@@ -26,7 +27,8 @@ some_none : (n : ℕ) (x : Option ℕ) → x ≡ None → x ≢ Some n
 some_none n x none some = absurd (cc)
 
 -- connections of a run that don't meet the next one's rule
-ends_before : (met : ℕ → Option ℕ) (run next : Run) (rest : List Run) → joins run next ≡ false → IsRuns met (run.last + 1) (next ∷ rest) → run.last < 1_000_000 → met (run.last + 1) ≢ Some run.rule
+ends_before : (met : ℕ → Option ℕ) (run next : Run) (rest : List Run) → joins run next ≡ false → IsRuns met (run.last + 1) (next ∷ rest) → run.last < 1_000_000
+    → met (run.last + 1) ≢ Some run.rule
 ends_before met run next rest apart runs within same =
     let first = runs.0 in
     let none = runs.1.0 in
@@ -43,7 +45,8 @@ ends_before met run next rest apart runs within same =
           some_none run.rule (met (run.last + 1)) nothing same
     ]
 
-pub ahead_runs : (met : ℕ → Option ℕ) (run : Run) (runs : List Run) → run.first ≤ run.last → run.last ≤ 1_000_000 → ((conn : ℕ) → run.first ≤ conn → conn ≤ run.last → met conn ≡ Some run.rule)
+pub ahead_runs : (met : ℕ → Option ℕ) (run : Run) (runs : List Run) → run.first ≤ run.last → run.last ≤ 1_000_000
+    → ((conn : ℕ) → run.first ≤ conn → conn ≤ run.last → met conn ≡ Some run.rule)
     → IsRuns met (run.last + 1) runs → IsRuns met run.first (ahead run runs)
 ahead_runs met run [] some most meet runs = (
   omega arith,
@@ -65,7 +68,8 @@ ahead_runs met run (next ∷ rest) some most meet runs = at (joins run next) ref
     whole : IsMetRun met next
     whole = runs.1.1.0
 
-    at : (b : Bool) → joins run next ≡ b → IsRuns met run.first (cond b (record { first = run.first; last = next.last; rule = run.rule } ∷ rest) (run ∷ next ∷ rest))
+    at : (b : Bool) → joins run next ≡ b → IsRuns met run.first (cond b (record { first = run.first; last = next.last; rule = run.rule } ∷ rest)
+        (run ∷ next ∷ rest))
     at true joined =
         let begins : next.first ≡ run.last + 1 = grind arith in
         let rule : next.rule ≡ run.rule = grind arith in

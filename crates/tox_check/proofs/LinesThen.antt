@@ -1,5 +1,6 @@
 -- Lines that are printed and counted, one part behind the other.
-use Rattle.std.proofs.Common.{◌≡◌, ℕ, ◌+◌, ◌-◌, ◌^◌, ◌≤◌, List, [], ◌∷◌, ◌++◌, length, min, IfOk, Result, Ok, Err, arith, drop, get_or, length-append, refl, rules, sym}
+use Rattle.std.proofs.Common.{◌≡◌, ℕ, ◌+◌, ◌-◌, ◌^◌, ◌≤◌, List, [], ◌∷◌, ◌++◌, length, min, IfOk, Result, Ok, Err, arith, drop, get_or, length-append, refl}
+use Rattle.std.proofs.Common.{rules, sym}
 use Rattle.std.specs.Result.{IsErrAnd}
 use Rattle.std.proofs.lemmas.Grind.{flat_map-append}
 use Rattle.tox_time.specs.declared.ends.Sink.{Ghosts}
@@ -34,12 +35,14 @@ module _ {W : Type 0} {sink : Ghosts W} {R : ℕ} (xs ys : List (List ℕ)) wher
   PrintsLines-front {result = result} exit front = (Prints-as (joined xs ys) (Prints-failed (joined_lines ys) exit front.0), IfOk-failed _ _ result exit)
 
   -- the second part broke off
-  pub PrintsLines-stops : {result : Result ℕ PrintPickFault} {fault : PrintPickFault} {a : ℕ} {first old new : SizedPrinter W R} → IsErrAnd result (λ same. same ≡ fault)
+  pub PrintsLines-stops : {result : Result ℕ PrintPickFault} {fault : PrintPickFault} {a : ℕ} {first old new : SizedPrinter W R}
+      → IsErrAnd result (λ same. same ≡ fault)
       → PrintsLines sink (Ok a) first old xs → PrintsLines sink (Err fault) old new ys → PrintsLines sink result first new (xs ++ ys)
   PrintsLines-stops {result = result} exit before front =
       (Prints-as (joined xs ys) (Prints-then before.0 (Prints-exited exit front.0)), IfOk-failed _ _ result exit)
 
 -- the lines of the first proxy, and those of the others
-pub proxies_lines-first : (proxies : List Proxy) (d : Proxy) → 1 ≤ length proxies → proxy_lines (get_or proxies 0 d) ++ proxies_lines (drop 1 proxies) ≡ proxies_lines proxies
+pub proxies_lines-first : (proxies : List Proxy) (d : Proxy) → 1 ≤ length proxies
+    → proxy_lines (get_or proxies 0 d) ++ proxies_lines (drop 1 proxies) ≡ proxies_lines proxies
 proxies_lines-first [] d some = absurd (omega arith)
 proxies_lines-first (proxy ∷ proxies) d some = refl

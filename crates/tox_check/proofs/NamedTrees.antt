@@ -1,5 +1,6 @@
 -- The trees of proxies, and the runs of a name.
-use Rattle.std.proofs.Common.{◌≡◌, ◌≢◌, ℕ, suc, ◌+◌, ◌<◌, inl, inr, Bool, true, false, cond, not, List, [], ◌∷◌, ◌++◌, get_or, length, nat_lt, Option, None, Some, arith, refl, sym, ap, ◌∙◌, subst}
+use Rattle.std.proofs.Common.{◌≡◌, ◌≢◌, ℕ, suc, ◌+◌, ◌<◌, inl, inr, Bool, true, false, cond, not, List, [], ◌∷◌, ◌++◌, get_or, length, nat_lt, Option, None}
+use Rattle.std.proofs.Common.{Some, arith, refl, sym, ap, ◌∙◌, subst}
 use Rattle.std.specs.List.{find, position, position_or_len}
 use Rattle.std.proofs.lemmas.Bool.{cases_Bool, ltb-false, ltb-true}
 use Rattle.std.proofs.lemmas.List.Folds.{find_at}
@@ -14,7 +15,8 @@ use Rattle.tox_check.specs.RuleWarnings.{runs_by}
 use Rattle.tox_check.specs.Trees.{AreTrees, HoldsRuns, runs_named}
 use Rattle.tox_check.specs.declared.tree.RunTree.{RunTree}
 
-pub AreTrees-push : (script : Rules) (proxies : List Proxy) (proxy : Proxy) (trees : List (Option RunTree)) (tree : Option RunTree) → AreTrees script proxies trees → HoldsRuns script proxy.name tree
+pub AreTrees-push : (script : Rules) (proxies : List Proxy) (proxy : Proxy) (trees : List (Option RunTree)) (tree : Option RunTree)
+    → AreTrees script proxies trees → HoldsRuns script proxy.name tree
     → AreTrees script (proxies ++ proxy ∷ []) (trees ++ tree ∷ [])
 AreTrees-push script [] proxy [] tree are holds = (holds, refl)
 AreTrees-push script [] proxy (other ∷ trees) tree are holds = absurd (cc)
@@ -26,23 +28,28 @@ AreTrees-length script [] trees are = ap length are
 AreTrees-length script (proxy ∷ proxies) [] are = absurd are
 AreTrees-length script (proxy ∷ proxies) (tree ∷ trees) are = ap suc (AreTrees-length script proxies trees are.1)
 
-pub AreRuns-trees : (script : Rules) (proxies : List Proxy) (trees : List (Option RunTree)) → AreTrees script proxies trees → AreRuns proxies script (runs_named proxies trees)
+pub AreRuns-trees : (script : Rules) (proxies : List Proxy) (trees : List (Option RunTree)) → AreTrees script proxies trees
+    → AreRuns proxies script (runs_named proxies trees)
 AreRuns-trees script [] trees are = λ name there. absurd (there refl)
 AreRuns-trees script (proxy ∷ proxies) [] are = absurd are
-AreRuns-trees script (proxy ∷ proxies) (tree ∷ trees) are = λ name there. at name (is_named name proxy) refl (AreRuns-trees script proxies trees are.1 name) there
+AreRuns-trees script (proxy ∷ proxies) (tree ∷ trees) are = λ name there.
+    at name (is_named name proxy) refl (AreRuns-trees script proxies trees are.1 name) there
   where
-    at : (name : List ℕ) (named : Bool) → is_named name proxy ≡ named → (find (is_named name) proxies ≢ None → IsRuns (met name script) 1 (runs_named proxies trees name))
+    at : (name : List ℕ) (named : Bool) → is_named name proxy ≡ named →
+        (find (is_named name) proxies ≢ None → IsRuns (met name script) 1 (runs_named proxies trees name))
         → cond named (Some proxy) (find (is_named name) proxies) ≢ None → IsRuns (met name script) 1 (cond named (runs_by tree) (runs_named proxies trees name))
     at name true named others there = subst (λ n. IsRuns (met n script) 1 (runs_by tree)) ((bytes_eq-Decides proxy.name name).0 named) are.0.runs
     at name false named others there = others there
 
 -- the first proxy of a name stands at a place, and its tree too
-pub record StandsAt (script : Rules) (name : List ℕ) (proxies : List Proxy) (trees : List (Option RunTree)) (d : Proxy) (e : Option RunTree) (place : ℕ) : Type 0 where
+pub record StandsAt (script : Rules) (name : List ℕ) (proxies : List Proxy) (trees : List (Option RunTree)) (d : Proxy) (e : Option RunTree) (place : ℕ) : Type
+    0 where
   pub found : find (is_named name) proxies ≡ Some (get_or proxies place d)
   pub runs : runs_named proxies trees name ≡ runs_by (get_or trees place e)
   pub holds : HoldsRuns script (get_or proxies place d).name (get_or trees place e)
 
-StandsAt-first : (script : Rules) (name : List ℕ) (proxies : List Proxy) (trees : List (Option RunTree)) (d : Proxy) (e : Option RunTree) → AreTrees script proxies trees → position_or_len (is_named name) proxies < length proxies
+StandsAt-first : (script : Rules) (name : List ℕ) (proxies : List Proxy) (trees : List (Option RunTree)) (d : Proxy) (e : Option RunTree)
+    → AreTrees script proxies trees → position_or_len (is_named name) proxies < length proxies
     → StandsAt script name proxies trees d e (position_or_len (is_named name) proxies)
 StandsAt-first script name [] trees d e are below = absurd (omega arith)
 StandsAt-first script name (proxy ∷ proxies) [] d e are below = absurd are
@@ -69,10 +76,12 @@ StandsAt-first script name (proxy ∷ proxies) (tree ∷ trees) d e are below =
     ]
 
 -- where the first that passes is found
-pub position-some : {X : Type 0} (test : X → Bool) (xs : List X) (place : ℕ) → position test xs ≡ Some place → (position_or_len test xs ≡ place) × (place < length xs)
+pub position-some : {X : Type 0} (test : X → Bool) (xs : List X) (place : ℕ) → position test xs ≡ Some place
+    → (position_or_len test xs ≡ place) × (place < length xs)
 position-some test xs place found = at (nat_lt (position_or_len test xs) (length xs)) refl found
   where
-    at : (below : Bool) → nat_lt (position_or_len test xs) (length xs) ≡ below → cond below (Some (position_or_len test xs)) None ≡ Some place → (position_or_len test xs ≡ place) × (place < length xs)
+    at : (below : Bool) → nat_lt (position_or_len test xs) (length xs) ≡ below → cond below (Some (position_or_len test xs)) None ≡ Some place
+        → (position_or_len test xs ≡ place) × (place < length xs)
     at true below found =
         let same : position_or_len test xs ≡ place = cc in
         let within : position_or_len test xs < length xs = ltb-true (position_or_len test xs) (length xs) below in
@@ -87,7 +96,8 @@ position-none test xs none = at (nat_lt (position_or_len test xs) (length xs)) r
     at false past none = find_at test xs ∙ slice_get_past xs (position_or_len test xs) (ltb-false (position_or_len test xs) (length xs) past)
 
 -- the proxy of a name stands at the place that was found, and its tree too
-pub StandsAt-position : (script : Rules) (name : List ℕ) (proxies : List Proxy) (trees : List (Option RunTree)) (d : Proxy) (e : Option RunTree) (place : ℕ) → AreTrees script proxies trees → position (is_named name) proxies ≡ Some place
+pub StandsAt-position : (script : Rules) (name : List ℕ) (proxies : List Proxy) (trees : List (Option RunTree)) (d : Proxy) (e : Option RunTree) (place : ℕ)
+    → AreTrees script proxies trees → position (is_named name) proxies ≡ Some place
     → StandsAt script name proxies trees d e place
 StandsAt-position script name proxies trees d e place are found =
     let at = position-some (is_named name) proxies place found in

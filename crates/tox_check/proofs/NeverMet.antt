@@ -1,5 +1,6 @@
 -- A rule has no own runs exactly where no connection meets it.
-use Rattle.std.proofs.Common.{◌≡◌, ◌≢◌, ℕ, ◌+◌, ◌≤◌, inl, inr, ◌&&◌, Bool, true, false, cond, List, [], ◌∷◌, filter, map, Option, None, Some, arith, refl, sym, ap, ◌∙◌}
+use Rattle.std.proofs.Common.{◌≡◌, ◌≢◌, ℕ, ◌+◌, ◌≤◌, inl, inr, ◌&&◌, Bool, true, false, cond, List, [], ◌∷◌, filter, map, Option, None, Some, arith, refl, sym}
+use Rattle.std.proofs.Common.{ap, ◌∙◌}
 use Rattle.std.proofs.lemmas.Bool.{and_from, and_right, eq-eqb, false≢true, le-leb, ne_eqb}
 use Rattle.std.proofs.lemmas.Bool.Decides.{leb_tells}
 use Rattle.tox_check.specs.Coverage.{cut_to_range, meets_rule, own_of, reaches, within}
@@ -7,9 +8,11 @@ use Rattle.tox_check.specs.Runs.{IsMetRun, IsRuns}
 use Rattle.tox_check.specs.declared.run.Run.{Run}
 
 own-cons : (rule first last : ℕ) (run : Run) (rest : List Run) → own_of rule (within first last (run ∷ rest))
-    ≡ cond (reaches first last run && meets_rule rule run) (cut_to_range first last run ∷ own_of rule (within first last rest)) (own_of rule (within first last rest))
+    ≡ cond (reaches first last run && meets_rule rule run) (cut_to_range first last run ∷ own_of rule (within first last rest))
+    (own_of rule (within first last rest))
 own-cons rule first last run rest =
-    elim (reaches first last run) as (λ b. own_of rule (map (cut_to_range first last) (cond b (run ∷ filter (reaches first last) rest) (filter (reaches first last) rest)))
+    elim (reaches first last run) as (λ b. own_of rule (map (cut_to_range first last)
+    (cond b (run ∷ filter (reaches first last) rest) (filter (reaches first last) rest)))
     ≡ cond (b && meets_rule rule run) (cut_to_range first last run ∷ own_of rule (within first last rest)) (own_of rule (within first last rest))) [
       | true ↦ refl
       | false ↦ refl
@@ -25,7 +28,8 @@ pub none_meets : (met : ℕ → Option ℕ) (rule first last at : ℕ) (runs : L
 none_meets met rule first last at [] are none conn from most begins ends meets =
     let nothing : met conn ≡ None = are conn from (omega arith) in absurd (cc)
 none_meets met rule first last at (run ∷ rest) are none conn from most begins ends same =
-    let parts = none_first (reaches first last run && meets_rule rule run) (cut_to_range first last run) (own_of rule (within first last rest)) (sym (own-cons rule first last run rest) ∙ none) in
+    let parts = none_first (reaches first last run && meets_rule rule run) (cut_to_range first last run) (own_of rule (within first last rest))
+    (sym (own-cons rule first last run rest) ∙ none) in
     elim (leb_tells run.first conn) [
       | inl behind ↦ elim (leb_tells conn run.last) [
         | inl inside ↦
@@ -54,5 +58,6 @@ none_own met rule first last at (run ∷ rest) are begins never =
     let here : met run.first ≡ Some run.rule = whole.meet run.first (omega arith) some in
     let other : run.rule ≢ rule = λ same. never run.first (omega arith) (omega arith) (here ∙ ap (λ r. Some r) same) in
     own-cons rule first last run rest
-    ∙ ap (λ b. cond b (cut_to_range first last run ∷ own_of rule (within first last rest)) (own_of rule (within first last rest))) (and_right (reaches first last run) (meets_rule rule run) (ne_eqb run.rule rule other))
+    ∙ ap (λ b. cond b (cut_to_range first last run ∷ own_of rule (within first last rest)) (own_of rule (within first last rest)))
+    (and_right (reaches first last run) (meets_rule rule run) (ne_eqb run.rule rule other))
     ∙ none_own met rule first last (run.last + 1) rest are.1.1.1 (omega arith) never

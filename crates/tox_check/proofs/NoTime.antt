@@ -43,14 +43,17 @@ outside (suc from) (suc until) span t some before = by (nat_lt t (1000 * suc fro
         let late : 1000 * suc until ≤ t = omega (arith, before, past) in rw (is, le-leb (1000 * suc until) t late) refl
 
 -- the items of a stream stay as they are
-kept : (from until : ℕ) (giving : Giving) (items : List Item) (p c n b position since : ℕ) → OrdersFinals giving → 0 < until → until ≤ from → p ≤ since → IsStreamFrom position since items
+kept : (from until : ℕ) (giving : Giving) (items : List Item) (p c n b position since : ℕ) → OrdersFinals giving → 0 < until → until ≤ from → p ≤ since
+    → IsStreamFrom position since items
     → flow_from (during from until (counted giving)) (open_state p c n b) items ≡ items
 kept from until giving [] p c n b position since orders some before early stream = absurd stream
 kept from until giving (Chunk span t ∷ items) p c n b position since orders some before early stream =
     let reaction = during from until (counted giving) in
     let at : max p t ≡ t = omega (arith, early, stream.2) in
-    ap (λ (answer : Answer). answer.given ++ flow_from reaction answer.state items) (during-outside from until (counted giving) (open_state p c n b) (Chunk span t) (outside from until span t some before))
-    ∙ ap₂ (λ (t : ℕ) (items : List Item). Chunk span t ∷ items) at (kept from until giving items (max p t) c n b span.stop t orders some before (omega (arith, at)) stream.4)
+    ap (λ (answer : Answer). answer.given ++ flow_from reaction answer.state items)
+    (during-outside from until (counted giving) (open_state p c n b) (Chunk span t) (outside from until span t some before))
+    ∙ ap₂ (λ (t : ℕ) (items : List Item). Chunk span t ∷ items) at (kept from until giving items (max p t) c n b span.stop t orders some before
+    (omega (arith, at)) stream.4)
 kept from until giving (Closed t ∷ items) p c n b position since orders some before early stream =
     let same : max p t ≡ t = omega (arith, early, stream.0) in
     rw stream.2 (final-kept from until giving (ClosedAt t) p c n b orders (ap (λ (t : ℕ). Closed t) same))
@@ -69,12 +72,15 @@ no_time toxic is =
 toxic-same : (toxic : Toxic) (words : ℕ → ℕ) (items : List Item) → has_no_time toxic ≡ true → IsStream items → toxic_flow toxic words items ≡ items
 toxic-same (Latency latency jitter until from) words items is stream =
     let time = no_time (Latency latency jitter until from) is in
-    kept from until (latency_gives latency jitter words) items 0 0 0 0 0 0 (delay-orders (λ chunk. 1000 * varied latency jitter (words (1 + chunk)))) time.0 time.1 (omega arith) stream
+    kept from until (latency_gives latency jitter words) items 0 0 0 0 0 0 (delay-orders (λ chunk. 1000 * varied latency jitter (words (1 + chunk)))) time.0
+    time.1 (omega arith) stream
 toxic-same (Bandwidth rate until from) words items is stream =
-    let time = no_time (Bandwidth rate until from) is in kept from until (pace_gives rate) items 0 0 0 0 0 0 (pace-orders rate) time.0 time.1 (omega arith) stream
+    let time = no_time (Bandwidth rate until from) is in kept from until (pace_gives rate) items 0 0 0 0 0 0 (pace-orders rate) time.0 time.1 (omega arith)
+    stream
 toxic-same (Slicer average variation delay until from) words items is stream =
     let time = no_time (Slicer average variation delay until from) is in
-    kept from until (slicer_gives average variation delay words) items 0 0 0 0 0 0 (slicing-orders (λ piece. varied average variation (words (1 + piece))) delay) time.0 time.1 (omega arith) stream
+    kept from until (slicer_gives average variation delay words) items 0 0 0 0 0 0
+    (slicing-orders (λ piece. varied average variation (words (1 + piece))) delay) time.0 time.1 (omega arith) stream
 toxic-same (SlowClose delay) words items is stream = absurd (cc)
 toxic-same (Timeout timeout from after) words items is stream = absurd (cc)
 toxic-same (ResetPeer timeout after) words items is stream = absurd (cc)
@@ -101,7 +107,8 @@ without-same draws place (suc k) (first ∷ entries) entry items fit is found st
     ∙ without-same draws (place + 1) k entries entry (through_one e first.toxic (draws place) items) (All-tail IsEntry first entries fit) is found given
     ∙ sym (through-cons draws place first (silenced k entries) items)
 
-pub no_time-same : (chain : Toxics) (k : ℕ) (entry : Entry) → IsChain chain → slice_get chain.entries k ≡ Some entry → has_no_time entry.toxic ≡ true → ChangesNothing k chain
+pub no_time-same : (chain : Toxics) (k : ℕ) (entry : Entry) → IsChain chain → slice_get chain.entries k ≡ Some entry → has_no_time entry.toxic ≡ true
+    → ChangesNothing k chain
 no_time-same chain k entry fits found is words items stream =
     let same = without-same (chain_draws chain words) 0 k chain.entries entry items fits.entries_fit is found stream in
     record { tables = ap table same; endings = ap ending same }

@@ -20,10 +20,12 @@ module _ (name : List ℕ) (script : Rules) (steps : List Step) (is : IsIndex na
   AreNumbered-index few = λ conn rule most found. met_fits name script conn (rule_at conn steps) (is conn (omega arith)) few rule found
 
   pub IsRuns-index : (runs : List Run) → IsRuns (λ conn. number_at conn steps) 1 runs → IsRuns (met name script) 1 runs
-  IsRuns-index runs are = IsRuns-same (λ conn. number_at conn steps) (met name script) 1 runs (λ conn most. ap (option_map (λ rule. rule + 1)) (is conn (omega arith))) are
+  IsRuns-index runs are = IsRuns-same (λ conn. number_at conn steps) (met name script) 1 runs
+      (λ conn most. ap (option_map (λ rule. rule + 1)) (is conn (omega arith))) are
 
 -- runs are in their tree
-pub HoldsRuns-some : (script : Rules) (name : List ℕ) (tree : RunTree) (runs : List Run) → IsTree tree → runs_in tree ≡ runs → IsRuns (met name script) 1 runs → HoldsRuns script name (Some tree)
+pub HoldsRuns-some : (script : Rules) (name : List ℕ) (tree : RunTree) (runs : List Run) → IsTree tree → runs_in tree ≡ runs → IsRuns (met name script) 1 runs
+    → HoldsRuns script name (Some tree)
 HoldsRuns-some script name tree runs whole same are = record { whole = whole; runs = subst (IsRuns (met name script) 1) (sym same) are }
 
 -- and not many

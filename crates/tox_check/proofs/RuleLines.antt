@@ -1,5 +1,6 @@
 -- The lines of rules, as they are printed and counted.
-use Rattle.std.proofs.Common.{◌≡◌, ℕ, ◌+◌, ◌-◌, ◌^◌, List, [], ◌∷◌, ◌++◌, append-nil, codes, decimal, flat_map, get_or, length, map, min, take, arith, length-append, refl, sym, ap, ◌∙◌}
+use Rattle.std.proofs.Common.{◌≡◌, ℕ, ◌+◌, ◌-◌, ◌^◌, List, [], ◌∷◌, ◌++◌, append-nil, codes, decimal, flat_map, get_or, length, map, min, take, arith}
+use Rattle.std.proofs.Common.{length-append, refl, sym, ap, ◌∙◌}
 use Rattle.std.proofs.lemmas.Grind.{flat_map-append}
 use Rattle.std.proofs.lemmas.List.{length-map, take_more}
 use Rattle.tox_text.proofs.Listed.{IsAt}
@@ -22,7 +23,8 @@ length-lines_of number warnings = length-map (map warning_text warnings) (λ tex
 -- lines by elements of a list, joined element by element
 pub joined_lines-flat_map : {X : Type 0} (f : X → List (List ℕ)) (xs : List X) → flat_map (λ x. joined_lines (f x)) xs ≡ joined_lines (flat_map f xs)
 joined_lines-flat_map f [] = refl
-joined_lines-flat_map f (x ∷ xs) = ap (λ lines. joined_lines (f x) ++ lines) (joined_lines-flat_map f xs) ∙ sym (flat_map-append (λ line. line) (f x) (flat_map f xs))
+joined_lines-flat_map f (x ∷ xs) = ap (λ lines. joined_lines (f x) ++ lines) (joined_lines-flat_map f xs)
+    ∙ sym (flat_map-append (λ line. line) (f x) (flat_map f xs))
 
 -- a number is added to one that is held
 pub held-plus : (most a b : ℕ) → min (min a most + b) most ≡ min (a + b) most

@@ -24,7 +24,8 @@ known_lines script number scope tree proxy =
     met_warnings (number + 1) (within scope.first (last_of scope.last) (runs_by tree))
     ++ (toxics_warnings (decimals_numbered number script) (chains_numbered (Some number) script) (order_numbered number script) ++ proxy_warnings proxy)
 
-module _ (script : Rules) (proxies : List Proxy) (trees : List (Option RunTree)) (number : ℕ) (rule : Rule) (is : slice_get script.rules number ≡ Some rule) (scope : RuleScope) (same : scope ≡ scope_of rule) where
+module _ (script : Rules) (proxies : List Proxy) (trees : List (Option RunTree)) (number : ℕ) (rule : Rule) (is : slice_get script.rules number ≡ Some rule)
+    (scope : RuleScope) (same : scope ≡ scope_of rule) where
   pub rule_warnings-unknown : position (is_named scope.proxy) proxies ≡ None
       → unknown_text scope.proxy (nearest scope.proxy (proxy_names proxies)) ∷ [] ≡ rule_warnings proxies (runs_named proxies trees) (number + 1) rule
   rule_warnings-unknown none =
@@ -37,9 +38,11 @@ module _ (script : Rules) (proxies : List Proxy) (trees : List (Option RunTree))
   rule_warnings-known are d e place found =
       let somewhere = ap (λ (s : RuleScope). position (is_named s.proxy) proxies) (sym same) ∙ found in
       let stands = StandsAt-position script rule.proxy proxies trees d e place are somewhere in
-      let others = toxics_warnings (decimals_numbered number script) (chains_numbered (Some number) script) (order_numbered number script) ++ proxy_warnings (get_or proxies place d) in
+      let others = toxics_warnings (decimals_numbered number script) (chains_numbered (Some number) script) (order_numbered number script)
+      ++ proxy_warnings (get_or proxies place d) in
       ap (λ (s : RuleScope). met_warnings (number + 1) (within s.first (last_of s.last) (runs_by (get_or trees place e))) ++ others) same
       ∙ ap (λ (runs : List Run). met_warnings (number + 1) (within rule.first (last_of rule.last) runs) ++ others) (sym stands.runs)
       ∙ ap (λ (r : Option Rule). met_warnings (number + 1) (within rule.first (last_of rule.last) (runs_named proxies trees rule.proxy))
-      ++ (toxics_warnings (unwrap_or (option_map (λ (x : Rule). x.decimals) r) []) (chains_in script.settings.lanes r) (unwrap_or (option_map (λ (x : Rule). x.order) r) []) ++ proxy_warnings (get_or proxies place d))) is
+      ++ (toxics_warnings (unwrap_or (option_map (λ (x : Rule). x.decimals) r) []) (chains_in script.settings.lanes r)
+      (unwrap_or (option_map (λ (x : Rule). x.order) r) []) ++ proxy_warnings (get_or proxies place d))) is
       ∙ ap (known_warnings proxies (number + 1) rule (runs_named proxies trees rule.proxy)) (sym stands.found)

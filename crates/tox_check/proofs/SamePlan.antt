@@ -37,7 +37,8 @@ folded-cons : (draws : Draws) (ops : List Op) (place : ℕ) (entry : Entry) (ent
     → folded draws ops place (entry ∷ entries) ≡ folded draws (with_entry (is_applied entry place draws) ops place entry) (place + 1) entries
 folded-cons draws ops place entry entries = by (is_applied entry place draws) refl
   where
-    by : (e : Bool) → is_applied entry place draws ≡ e → folded draws ops place (entry ∷ entries) ≡ folded draws (with_entry e ops place entry) (place + 1) entries
+    by : (e : Bool) → is_applied entry place draws ≡ e → folded draws ops place (entry ∷ entries)
+        ≡ folded draws (with_entry e ops place entry) (place + 1) entries
     by true is = rw is refl
     by false is = rw is refl
 
@@ -77,7 +78,8 @@ mute-kept ops place toxic (end, is) = rw is (kept (op_of place toxic))
     kept (Mute other) = (other, refl)
     kept (Delay fixed latency jitter lane until from) = by (vanishes (Delay fixed latency jitter lane until from)) refl
       where
-        by : (e : Bool) → vanishes (Delay fixed latency jitter lane until from) ≡ e → IsMute (with_op (Mute end ∷ []) (Delay fixed latency jitter lane until from))
+        by : (e : Bool) → vanishes (Delay fixed latency jitter lane until from) ≡ e
+            → IsMute (with_op (Mute end ∷ []) (Delay fixed latency jitter lane until from))
         by true e = rw e (end, refl)
         by false e = rw e (after_mute (Delay fixed latency jitter lane until from) end, refl)
     kept (Slow millis) = by (vanishes (Slow millis)) refl
@@ -128,12 +130,14 @@ fits-entry Fits false ops place entry keeps fits = fits
 
 -- without it the others give the same operations
 skipped : (Fits : List Op → Type 0) (draws : Draws) (ops : List Op) (place k : ℕ) (entries : List Entry) (entry : Entry)
-    → Keeps Fits → Skips Fits entry.toxic → Fits ops → slice_get entries k ≡ Some entry → folded draws ops place entries ≡ folded draws ops place (silenced k entries)
+    → Keeps Fits → Skips Fits entry.toxic → Fits ops → slice_get entries k ≡ Some entry
+    → folded draws ops place entries ≡ folded draws ops place (silenced k entries)
 skipped Fits draws ops place k [] entry keeps skips fits found = refl
 skipped Fits draws ops place zero (first ∷ entries) entry keeps skips fits found =
     let same : first ≡ entry = cc in
     folded-cons draws ops place first entries
-    ∙ ap (λ ops. folded draws ops (place + 1) entries) (entry-same (is_applied first place draws) ops place first (subst (λ (e : Entry). with_op ops (op_of place e.toxic) ≡ ops) (sym same) (skips ops place fits)))
+    ∙ ap (λ ops. folded draws ops (place + 1) entries) (entry-same (is_applied first place draws) ops place first
+    (subst (λ (e : Entry). with_op ops (op_of place e.toxic) ≡ ops) (sym same) (skips ops place fits)))
     ∙ sym (folded-silenced draws ops place first entries)
 skipped Fits draws ops place (suc k) (first ∷ entries) entry keeps skips fits found =
     let e = is_applied first place draws in
@@ -142,12 +146,15 @@ skipped Fits draws ops place (suc k) (first ∷ entries) entry keeps skips fits 
     ∙ sym (folded-cons draws ops place first (silenced k entries))
 
 -- what drops all is applied
-drops-all : (draws : Draws) (place : ℕ) (entry : Entry) → drops_all entry ≡ true → ((toxic_effect entry.toxic).drops_data ≡ true) × (is_applied entry place draws ≡ true)
+drops-all : (draws : Draws) (place : ℕ) (entry : Entry) → drops_all entry ≡ true
+    → ((toxic_effect entry.toxic).drops_data ≡ true) × (is_applied entry place draws ≡ true)
 drops-all draws place entry drops =
-    let both = and_parts (toxic_effect entry.toxic).drops_data (entry.toxicity == 1000) drops in (both.0, always entry place draws (eqb-true entry.toxicity 1000 both.1))
+    let both = and_parts (toxic_effect entry.toxic).drops_data (entry.toxicity == 1000) drops in
+    (both.0, always entry place draws (eqb-true entry.toxicity 1000 both.1))
 
 -- what drops all data leaves a mute alone, whatever came before
-muted : (ops more : List Op) (place : ℕ) (toxic : Toxic) → (toxic_effect toxic).drops_data ≡ true → IsMute (with_op ops (op_of place toxic)) × (with_op ops (op_of place toxic) ≡ with_op more (op_of place toxic))
+muted : (ops more : List Op) (place : ℕ) (toxic : Toxic) → (toxic_effect toxic).drops_data ≡ true
+    → IsMute (with_op ops (op_of place toxic)) × (with_op ops (op_of place toxic) ≡ with_op more (op_of place toxic))
 muted ops more place (Timeout timeout zero zero) is = ((timeout_ending timeout, refl), refl)
 muted ops more place (Timeout timeout zero (suc after)) is =
     let none : suc after ≡ 0 = eqb-true (suc after) 0 (and_parts (0 == 0) (suc after == 0) is).1 in absurd (omega arith)
@@ -167,19 +174,22 @@ lost-behind : (draws : Draws) (ops : List Op) (place k : ℕ) (entries : List En
 lost-behind draws ops place k [] entry needs drops found = refl
 lost-behind draws ops place zero (first ∷ entries) entry needs drops found = absurd (cc)
 lost-behind draws ops place (suc k) (first ∷ entries) entry needs drops found =
-    by (drops_all first) refl (λ others. lost-behind draws (with_entry (is_applied first place draws) ops place first) (place + 1) k entries entry needs others found)
+    by (drops_all first) refl (λ others. lost-behind draws (with_entry (is_applied first place draws) ops place first) (place + 1) k entries entry needs others
+    found)
   where
     here : Bool
     here = is_applied first place draws
 
     by : (e : Bool) → drops_all first ≡ e
-        → (list_any drops_all (take k entries) ≡ true → folded draws (with_entry here ops place first) (place + 1) entries ≡ folded draws (with_entry here ops place first) (place + 1) (silenced k entries))
+        → (list_any drops_all (take k entries) ≡ true → folded draws (with_entry here ops place first) (place + 1) entries
+        ≡ folded draws (with_entry here ops place first) (place + 1) (silenced k entries))
         → folded draws ops place (first ∷ entries) ≡ folded draws ops place (first ∷ silenced k entries)
     by true is later =
         let first_drops = drops-all draws place first is in
         let mute : IsMute (with_entry here ops place first) = rw first_drops.1 ((muted ops ops place first.toxic first_drops.0).0) in
         folded-cons draws ops place first entries
-        ∙ skipped IsMute draws (with_entry here ops place first) (place + 1) k entries entry mute-kept (λ ops place mute. data-same ops place entry.toxic mute needs) mute found
+        ∙ skipped IsMute draws (with_entry here ops place first) (place + 1) k entries entry mute-kept
+        (λ ops place mute. data-same ops place entry.toxic mute needs) mute found
         ∙ sym (folded-cons draws ops place first (silenced k entries))
     by false is later =
         folded-cons draws ops place first entries
@@ -191,13 +201,15 @@ forgets : (draws : Draws) (ops more : List Op) (place : ℕ) (entries : List Ent
     → folded draws ops place entries ≡ folded draws more place entries
 forgets draws ops more place [] drops = absurd (cc)
 forgets draws ops more place (first ∷ entries) drops =
-    by (drops_all first) refl (forgets draws (with_entry (is_applied first place draws) ops place first) (with_entry (is_applied first place draws) more place first) (place + 1) entries)
+    by (drops_all first) refl (forgets draws (with_entry (is_applied first place draws) ops place first)
+    (with_entry (is_applied first place draws) more place first) (place + 1) entries)
   where
     here : Bool
     here = is_applied first place draws
 
     by : (e : Bool) → drops_all first ≡ e
-        → (list_any drops_all entries ≡ true → folded draws (with_entry here ops place first) (place + 1) entries ≡ folded draws (with_entry here more place first) (place + 1) entries)
+        → (list_any drops_all entries ≡ true → folded draws (with_entry here ops place first) (place + 1) entries
+        ≡ folded draws (with_entry here more place first) (place + 1) entries)
         → folded draws ops place (first ∷ entries) ≡ folded draws more place (first ∷ entries)
     by true is later =
         let first_drops = drops-all draws place first is in
@@ -222,14 +234,16 @@ lost-before draws ops place (suc k) (first ∷ entries) drops =
     ∙ sym (folded-cons draws ops place first (silenced k entries))
 
 -- the plan is the same
-normal-same : (chain : Toxics) (words : List ℕ) (k : ℕ) (entry : Entry) → slice_get chain.entries k ≡ Some entry → ((toxic_effect entry.toxic).does_nothing || is_lost k entry.toxic chain.entries) ≡ true
+normal-same : (chain : Toxics) (words : List ℕ) (k : ℕ) (entry : Entry) → slice_get chain.entries k ≡ Some entry
+    → ((toxic_effect entry.toxic).does_nothing || is_lost k entry.toxic chain.entries) ≡ true
     → normal_form chain words ≡ normal_form (without k chain) words
 normal-same chain words k entry found idle = by (toxic_effect entry.toxic).does_nothing refl
   where
     draws : Draws
     draws = chain_draws chain words
 
-    lost : (e : Bool) → ((toxic_effect entry.toxic).needs_data && list_any drops_all (take k chain.entries)) ≡ e → (e || list_any drops_all (drop (suc k) chain.entries)) ≡ true
+    lost : (e : Bool) → ((toxic_effect entry.toxic).needs_data && list_any drops_all (take k chain.entries)) ≡ e
+        → (e || list_any drops_all (drop (suc k) chain.entries)) ≡ true
         → normal_form chain words ≡ normal_form (without k chain) words
     lost true is warning_text =
         let both = and_parts (toxic_effect entry.toxic).needs_data (list_any drops_all (take k chain.entries)) is in
@@ -237,11 +251,13 @@ normal-same chain words k entry found idle = by (toxic_effect entry.toxic).does_
     lost false is warning_text = lost-before draws [] 0 k chain.entries warning_text
 
     by : (e : Bool) → (toxic_effect entry.toxic).does_nothing ≡ e → normal_form chain words ≡ normal_form (without k chain) words
-    by true is = skipped (λ ops. ops ≡ ops) draws [] 0 k chain.entries entry (λ ops place toxic fits. refl) (λ ops place fits. nothing-same ops place entry.toxic is) refl found
+    by true is = skipped (λ ops. ops ≡ ops) draws [] 0 k chain.entries entry (λ ops place toxic fits. refl)
+        (λ ops place fits. nothing-same ops place entry.toxic is) refl found
     by false is = lost ((toxic_effect entry.toxic).needs_data && list_any drops_all (take k chain.entries)) refl (rw is at idle)
 
 -- so is the flow of each stream
-pub flow-same : (chain : Toxics) (k : ℕ) (entry : Entry) → IsChain chain → slice_get chain.entries k ≡ Some entry → ((toxic_effect entry.toxic).does_nothing || is_lost k entry.toxic chain.entries) ≡ true
+pub flow-same : (chain : Toxics) (k : ℕ) (entry : Entry) → IsChain chain → slice_get chain.entries k ≡ Some entry
+    → ((toxic_effect entry.toxic).does_nothing || is_lost k entry.toxic chain.entries) ≡ true
     → ChangesNothing k chain
 flow-same chain k entry fits found idle words items stream =
     let same : chain_flow chain words items ≡ chain_flow (without k chain) words items =

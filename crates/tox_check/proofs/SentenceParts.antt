@@ -11,5 +11,6 @@ range_text-parts run = ap (λ digits. digits ++ run_end run) (append-nil (decima
 pub sentence-parts : (rule : ℕ) (warning : Warning) → (codes "rule " ++ (decimal rule ++ [])) ++ warning_text warning ≡ sentence rule warning
 sentence-parts rule warning = ap (λ digits. (codes "rule " ++ digits) ++ warning_text warning) (append-nil (decimal rule))
 
-pub unknown_text-parts : (name : List ℕ) (near : Option (List ℕ)) → (codes " never applies: no proxy " ++ (visible_name name ++ [])) ++ near_text near ≡ unknown_text name near
+pub unknown_text-parts : (name : List ℕ) (near : Option (List ℕ)) → (codes " never applies: no proxy " ++ (visible_name name ++ [])) ++ near_text near
+    ≡ unknown_text name near
 unknown_text-parts name near = ap (λ shown. (codes " never applies: no proxy " ++ shown) ++ near_text near) (append-nil (visible_name name))

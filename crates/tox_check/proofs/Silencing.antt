@@ -24,7 +24,8 @@ without k chain = record { lanes = chain.lanes; entries = silenced k chain.entri
 entries-fit : (k : ℕ) (entries : List Entry) → All IsEntry entries → All IsEntry (silenced k entries)
 entries-fit k [] fit = fit
 entries-fit zero (entry ∷ entries) fit =
-    All-cons IsEntry (record { toxic = entry.toxic; toxicity = 0 }) entries ((All-head IsEntry entry entries fit).0, omega arith) (All-tail IsEntry entry entries fit)
+    All-cons IsEntry (record { toxic = entry.toxic; toxicity = 0 }) entries ((All-head IsEntry entry entries fit).0, omega arith)
+    (All-tail IsEntry entry entries fit)
 entries-fit (suc k) (entry ∷ entries) fit =
     All-cons IsEntry entry (silenced k entries) (All-head IsEntry entry entries fit) (entries-fit k entries (All-tail IsEntry entry entries fit))
 
@@ -34,4 +35,8 @@ length-silenced zero (entry ∷ entries) = refl
 length-silenced (suc k) (entry ∷ entries) = ap suc (length-silenced k entries)
 
 pub is_chain-without : (k : ℕ) (chain : Toxics) → IsChain chain → IsChain (without k chain)
-is_chain-without k chain fits = record { most = omega (arith, length-silenced k chain.entries, fits.most); entries_fit = entries-fit k chain.entries fits.entries_fit }
+is_chain-without k chain fits = record {
+  most = omega (arith, length-silenced k chain.entries, fits.most);
+  entries_fit =
+      entries-fit k chain.entries fits.entries_fit;
+}

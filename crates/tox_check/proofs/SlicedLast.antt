@@ -1,5 +1,6 @@
 -- A slicer without delay that is the last of its stream moves no byte: its pieces leave when their chunk came.
-use Rattle.std.proofs.Common.{◌≡◌, ℕ, zero, suc, ◌+◌, ◌-◌, ◌<◌, ◌≤◌, min, max, Bool, true, false, List, [], ◌∷◌, ◌++◌, length, replicate, Some, append_assoc, arith, refl, ap, ap₂, sym, ◌∙◌, subst, if◌then◌else◌}
+use Rattle.std.proofs.Common.{◌≡◌, ℕ, zero, suc, ◌+◌, ◌-◌, ◌<◌, ◌≤◌, min, max, Bool, true, false, List, [], ◌∷◌, ◌++◌, length, replicate, Some, append_assoc}
+use Rattle.std.proofs.Common.{arith, refl, ap, ap₂, sym, ◌∙◌, subst, if◌then◌else◌}
 use Rattle.std.specs.Prelude.{All, nat_le}
 use Rattle.std.specs.List.{slice_get}
 use Rattle.std.proofs.lemmas.Bool.{and_parts, eqb-true, leb-false, leb-true}
@@ -50,7 +51,8 @@ table-leaving size some number start (suc left) (suc fuel) since t rest enough b
     let now : plus (max since t) 0 ≡ t = omega (arith, before, instant) in
     let len : (start + m) - start ≡ m = omega arith in
     let sum : m + others ≡ suc left = omega arith in
-    let later = table-leaving size some (number + 1) (start + m) others fuel (plus (max since t) 0) t rest (omega (arith, enough, positive)) (omega (arith, now)) instant in
+    let later = table-leaving size some (number + 1) (start + m) others fuel (plus (max since t) 0) t rest (omega (arith, enough, positive))
+    (omega (arith, now)) instant in
     ap₂ (λ (n at : ℕ). replicate n at ++ table (leaving size (number + 1) (start + m) others fuel (plus (max since t) 0) t ++ rest)) len now
     ∙ ap (λ (ts : List ℕ). replicate m t ++ ts) later
     ∙ sym (append_assoc (replicate m t) (replicate others t) (table rest))
@@ -68,18 +70,23 @@ latest-leaving (span ∷ spans) since t p before earlier =
     latest-leaving spans (plus (max since t) 0) t (plus (max since t) 0) (omega (arith, before)) (omega (arith, before))
 
 abbrev Same : Reaction → List Item → Type 0
-Same reaction items = (p c n b : ℕ) (position since : ℕ) → p ≤ since → IsStreamFrom position since items → SameResult (flow_from reaction (open_state p c n b) items) items
+Same reaction items = (p c n b : ℕ) (position since : ℕ) → p ≤ since → IsStreamFrom position since items
+    → SameResult (flow_from reaction (open_state p c n b) items) items
 
 -- one chunk
-chunk-same : (outside : Bool) (reaction : Reaction) (size : ℕ → ℕ) → ((n : ℕ) → 0 < size n) → (span : Span) (t : ℕ) (items : List Item) (p c n b : ℕ) → p ≤ t → IsInstant t
+chunk-same : (outside : Bool) (reaction : Reaction) (size : ℕ → ℕ) → ((n : ℕ) → 0 < size n) → (span : Span) (t : ℕ) (items : List Item) (p c n b : ℕ) → p ≤ t
+    → IsInstant t
     → ((q c n b : ℕ) → q ≤ t → SameResult (flow_from reaction (open_state q c n b) items) items)
-    → SameResult ((if outside then uncounted_answer (open_state p c n b) (Chunk span t) else counted (slicing_gives size 0) (open_state p c n b) (Chunk span t)).given
-    ++ flow_from reaction (if outside then uncounted_answer (open_state p c n b) (Chunk span t) else counted (slicing_gives size 0) (open_state p c n b) (Chunk span t)).state items) (Chunk span t ∷ items)
+    → SameResult ((if outside then uncounted_answer (open_state p c n b) (Chunk span t) else counted (slicing_gives size 0) (open_state p c n b)
+    (Chunk span t)).given
+    ++ flow_from reaction (if outside then uncounted_answer (open_state p c n b) (Chunk span t) else counted (slicing_gives size 0) (open_state p c n b)
+    (Chunk span t)).state items) (Chunk span t ∷ items)
 chunk-same true reaction size some span t items p c n b before instant others =
     let at : max p t ≡ t = omega (arith, before) in
     let later = others (max p t) c n b (omega (arith, before)) in
     record { tables = ap₂ (λ (at : ℕ) (ts : List ℕ). replicate (span_len span) at ++ ts) at later.tables; endings = later.endings }
-chunk-same false reaction size some span t items p c n b before instant others = by (has_final (leaving size n span.start (span_len span) (span_len span) p t)) refl
+chunk-same false reaction size some span t items p c n b before instant others =
+    by (has_final (leaving size n span.start (span_len span) (span_len span) p t)) refl
   where
     given : List Item
     given = leaving size n span.start (span_len span) (span_len span) p t
@@ -88,10 +95,13 @@ chunk-same false reaction size some span t items p c n b before instant others =
     state done = record { previous = latest_from p given; chunks = c + 1; pieces = n + chunk_count given; passed = b + arrived given; done = done }
 
     by : (done : Bool) → has_final given ≡ done → SameResult (given ++ flow_from reaction (state (has_final given)) items) (Chunk span t ∷ items)
-    by done is = subst (λ (d : Bool). SameResult (given ++ flow_from reaction (state d) items) (Chunk span t ∷ items)) (sym (has_final-leave (λ _. 0) p t (pieces_of size n span)))
-        (let later = others (latest_from p given) (c + 1) (n + chunk_count given) (b + arrived given) (latest-leaving (pieces_of size n span) p t p before before) in
+    by done is = subst (λ (d : Bool). SameResult (given ++ flow_from reaction (state d) items) (Chunk span t ∷ items))
+        (sym (has_final-leave (λ _. 0) p t (pieces_of size n span)))
+        (let later = others (latest_from p given) (c + 1) (n + chunk_count given) (b + arrived given)
+        (latest-leaving (pieces_of size n span) p t p before before) in
         record {
-          tables = table-leaving size some n span.start (span_len span) (span_len span) p t _ (omega arith) before instant ∙ ap (λ (ts : List ℕ). replicate (span_len span) t ++ ts) later.tables;
+          tables = table-leaving size some n span.start (span_len span) (span_len span) p t _ (omega arith) before instant
+              ∙ ap (λ (ts : List ℕ). replicate (span_len span) t ++ ts) later.tables;
           endings = ending-leaving (pieces_of size n span) p t _ ∙ later.endings;
         })
 
@@ -99,7 +109,8 @@ chunk-same false reaction size some span t items p c n b before instant others =
 sliced : (size : ℕ → ℕ) → ((n : ℕ) → 0 < size n) → (from until : ℕ) (items : List Item) → Same (during from until (counted (slicing_gives size 0))) items
 sliced size some from until [] p c n b position since before stream = absurd stream
 sliced size some from until (Chunk span t ∷ items) p c n b position since before stream =
-    chunk-same (is_outside from until (Chunk span t)) (during from until (counted (slicing_gives size 0))) size some span t items p c n b (omega (arith, before, stream.2)) stream.3
+    chunk-same (is_outside from until (Chunk span t)) (during from until (counted (slicing_gives size 0))) size some span t items p c n b
+    (omega (arith, before, stream.2)) stream.3
     (λ q c n b early. sliced size some from until items q c n b span.stop t early stream.4)
 sliced size some from until (Closed t ∷ items) p c n b position since before stream =
     let same : max p t ≡ t = omega (arith, before, stream.0) in
@@ -119,9 +130,11 @@ pub slicer-same : (average variation until from : ℕ) (words : ℕ → ℕ) (it
 slicer-same average variation until from words items fits stream =
     let within = both_tests (is_within (Slicer average variation 0 until from)) (nat_le average variation) fits in
     let less = leb-false average variation within.1 in
-    sliced (λ piece. varied average variation (words (1 + piece))) (λ piece. varied-positive average variation (words (1 + piece)) less) from until items 0 0 0 0 0 0 (omega arith) stream
+    sliced (λ piece. varied average variation (words (1 + piece))) (λ piece. varied-positive average variation (words (1 + piece)) less) from until items 0 0 0
+    0 0 0 (omega arith) stream
 
-only_cuts-same : (e : Bool) (toxic : Toxic) (words : ℕ → ℕ) (items : List Item) → (toxic_effect toxic).only_cuts ≡ true → IsInRange toxic → IsStream items → SameResult (through_one e toxic words items) items
+only_cuts-same : (e : Bool) (toxic : Toxic) (words : ℕ → ℕ) (items : List Item) → (toxic_effect toxic).only_cuts ≡ true → IsInRange toxic → IsStream items
+    → SameResult (through_one e toxic words items) items
 only_cuts-same false toxic words items cuts fits stream = record { tables = refl; endings = refl }
 only_cuts-same true (Slicer average variation zero until from) words items cuts fits stream = slicer-same average variation until from words items fits stream
 only_cuts-same true (Slicer average variation (suc delay) until from) words items cuts fits stream =
@@ -134,8 +147,10 @@ only_cuts-same true (ResetPeer timeout after) words items cuts fits stream = abs
 only_cuts-same true (LimitData bytes) words items cuts fits stream = absurd (cc)
 
 -- the last entry
-last-same : (draws : Draws) (place k : ℕ) (entries : List Entry) (entry : Entry) (items : List Item) → All IsEntry entries → (toxic_effect entry.toxic).only_cuts ≡ true
-    → slice_get entries k ≡ Some entry → length entries ≤ suc k → IsStream items → SameResult (through draws place entries items) (through draws place (silenced k entries) items)
+last-same : (draws : Draws) (place k : ℕ) (entries : List Entry) (entry : Entry) (items : List Item) → All IsEntry entries
+    → (toxic_effect entry.toxic).only_cuts ≡ true
+    → slice_get entries k ≡ Some entry → length entries ≤ suc k → IsStream items
+    → SameResult (through draws place entries items) (through draws place (silenced k entries) items)
 last-same draws place k [] entry items fit cuts found last stream = record { tables = refl; endings = refl }
 last-same draws place zero (first ∷ second ∷ entries) entry items fit cuts found last stream = absurd (omega (arith, last))
 last-same draws place zero (first ∷ []) entry items fit cuts found last stream =
@@ -150,13 +165,17 @@ last-same draws place zero (first ∷ []) entry items fit cuts found last stream
 last-same draws place (suc k) (first ∷ entries) entry items fit cuts found last stream =
     let e = is_applied first place draws in
     let fits = (All-head IsEntry first entries fit).0 in
-    let later = last-same draws (place + 1) k entries entry (through_one e first.toxic (draws place) items) (All-tail IsEntry first entries fit) cuts found (omega (arith, last)) (through_one-stream e first.toxic (draws place) items fits stream) in
+    let later = last-same draws (place + 1) k entries entry (through_one e first.toxic (draws place) items) (All-tail IsEntry first entries fit) cuts found
+    (omega (arith, last)) (through_one-stream e first.toxic (draws place) items fits stream) in
     record {
-      tables = ap table (through-cons draws place first entries items) ∙ later.tables ∙ ap table (sym (through-cons draws place first (silenced k entries) items));
-      endings = ap ending (through-cons draws place first entries items) ∙ later.endings ∙ ap ending (sym (through-cons draws place first (silenced k entries) items));
+      tables = ap table (through-cons draws place first entries items) ∙ later.tables
+          ∙ ap table (sym (through-cons draws place first (silenced k entries) items));
+      endings = ap ending (through-cons draws place first entries items) ∙ later.endings
+          ∙ ap ending (sym (through-cons draws place first (silenced k entries) items));
     }
 
-pub cuts_last-same : (chain : Toxics) (k : ℕ) (entry : Entry) → IsChain chain → slice_get chain.entries k ≡ Some entry → cuts_last k entry.toxic chain.entries ≡ true → ChangesNothing k chain
+pub cuts_last-same : (chain : Toxics) (k : ℕ) (entry : Entry) → IsChain chain → slice_get chain.entries k ≡ Some entry
+    → cuts_last k entry.toxic chain.entries ≡ true → ChangesNothing k chain
 cuts_last-same chain k entry fits found warning_text words items stream =
     let both = and_parts (toxic_effect entry.toxic).only_cuts (nat_le (length chain.entries) (suc k)) warning_text in
     last-same (chain_draws chain words) 0 k chain.entries entry items fits.entries_fit both.0 found (leb-true (length chain.entries) (suc k) both.1) stream

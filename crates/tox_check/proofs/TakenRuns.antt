@@ -24,4 +24,5 @@ pub all_taken : (rule first : ℕ) (runs : List Run) → greatest first runs < r
 all_taken rule first [] below = refl
 all_taken rule first (run ∷ runs) below =
     let h : max first run.rule ≤ greatest (max first run.rule) runs = from_first (max first run.rule) runs in
-    ap (λ b. cond (not b) (run ∷ taken_of rule runs) (taken_of rule runs)) (other rule run (omega arith)) ∙ ap (λ rest. run ∷ rest) (all_taken rule (max first run.rule) runs below)
+    ap (λ b. cond (not b) (run ∷ taken_of rule runs) (taken_of rule runs)) (other rule run (omega arith))
+    ∙ ap (λ rest. run ∷ rest) (all_taken rule (max first run.rule) runs below)

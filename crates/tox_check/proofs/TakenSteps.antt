@@ -37,7 +37,8 @@ greatest-append : (rule : ℕ) (xs ys : List Run) → greatest rule (xs ++ ys) �
 greatest-append rule xs ys = fold-append (λ high (run : Run). max high run.rule) rule xs ys
 
 pub HasRuns-count : (rule : ℕ) (runs more : List Run) (old new : RuleRuns) (s : Summary) → s.high < rule → 8 ≤ length old.taken.shown.items
-    → new.own ≡ old.own → new.taken.shown.items ≡ old.taken.shown.items → new.taken.more ≡ old.taken.more + s.count → new.low ≡ min old.low s.low → new.high ≡ max old.high s.high
+    → new.own ≡ old.own → new.taken.shown.items ≡ old.taken.shown.items → new.taken.more ≡ old.taken.more + s.count → new.low ≡ min old.low s.low
+    → new.high ≡ max old.high s.high
     → HasRuns rule runs old → Sums more s → HasRuns rule (runs ++ more) new
 HasRuns-count rule runs more old new s others full own shown count low high is sums =
     let top : greatest 0 more < rule = let h = sums.high 0 in omega arith in
@@ -49,6 +50,8 @@ HasRuns-count rule runs more old new s others full own shown count low high is s
     record {
       own = rw (own, same) is.own;
       taken = rw all (IsListed-skip (taken_of rule runs) more old.taken new.taken full shown counted is.taken);
-      low = low ∙ ap (λ n. min n s.low) is.low ∙ sym (sums.low (least rule (taken_of rule runs))) ∙ sym (least-append rule (taken_of rule runs) more) ∙ ap (least rule) (sym all);
-      high = high ∙ ap (λ n. max n s.high) is.high ∙ sym (sums.high (greatest 0 (taken_of rule runs))) ∙ sym (greatest-append 0 (taken_of rule runs) more) ∙ ap (greatest 0) (sym all);
+      low = low ∙ ap (λ n. min n s.low) is.low ∙ sym (sums.low (least rule (taken_of rule runs))) ∙ sym (least-append rule (taken_of rule runs) more)
+          ∙ ap (least rule) (sym all);
+      high = high ∙ ap (λ n. max n s.high) is.high ∙ sym (sums.high (greatest 0 (taken_of rule runs))) ∙ sym (greatest-append 0 (taken_of rule runs) more)
+          ∙ ap (greatest 0) (sym all);
     }

@@ -24,14 +24,17 @@ through_one true toxic words items = toxic_flow toxic words items
 through_one false toxic words items = items
 
 pub through-cons : (draws : Draws) (place : ℕ) (entry : Entry) (entries : List Entry) (items : List Item)
-    → through draws place (entry ∷ entries) items ≡ through draws (place + 1) entries (through_one (is_applied entry place draws) entry.toxic (draws place) items)
+    → through draws place (entry ∷ entries) items ≡ through draws (place + 1) entries
+    (through_one (is_applied entry place draws) entry.toxic (draws place) items)
 through-cons draws place entry entries items = by (is_applied entry place draws) refl
   where
-    by : (e : Bool) → is_applied entry place draws ≡ e → through draws place (entry ∷ entries) items ≡ through draws (place + 1) entries (through_one e entry.toxic (draws place) items)
+    by : (e : Bool) → is_applied entry place draws ≡ e → through draws place (entry ∷ entries) items
+        ≡ through draws (place + 1) entries (through_one e entry.toxic (draws place) items)
     by true is = rw is refl
     by false is = rw is refl
 
-pub through_one-stream : (e : Bool) (toxic : Toxic) (words : ℕ → ℕ) (items : List Item) → IsInRange toxic → IsStream items → IsStream (through_one e toxic words items)
+pub through_one-stream : (e : Bool) (toxic : Toxic) (words : ℕ → ℕ) (items : List Item) → IsInRange toxic → IsStream items
+    → IsStream (through_one e toxic words items)
 through_one-stream true toxic words items fits stream = IsStream-toxic_flow toxic words items fits stream
 through_one-stream false toxic words items fits stream = stream
 

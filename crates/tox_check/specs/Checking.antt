@@ -1,5 +1,6 @@
 -- The text of a check, and the answer of a check request over files.
-use Rattle.std.specs.Prelude.{◌≡◌, ◌≢◌, ◌↔◌, ℕ, ◌≤◌, ◌+◌, ◌-◌, ◌^◌, Bool, IsTrue, true, false, List, [], ◌++◌, codes, decimal, flat_map, length, min, sum_by, Option, None, Some, option_map, slice_get}
+use Rattle.std.specs.Prelude.{◌≡◌, ◌≢◌, ◌↔◌, ℕ, ◌≤◌, ◌+◌, ◌-◌, ◌^◌, Bool, IsTrue, true, false, List, [], ◌++◌, codes, decimal, flat_map, length, min, sum_by}
+use Rattle.std.specs.Prelude.{Option, None, Some, option_map, slice_get}
 use Rattle.std.specs.Io.KnownBytes.{append_known}
 use Rattle.std.specs.List.{find, list_any}
 use Rattle.tox_config.specs.Populate.{is_named}

@@ -20,7 +20,8 @@ pub record Compiles (toxics : List Placed) (count : ℕ) (ops : List Op) : Type 
   pub sums : AddAtMost (3_600_000 * count) ops
 
 -- one more toxic
-pub compiles-more : (lanes : Lanes) (toxics : List Placed) (count : ℕ) (ops : List Op) (toxic d : Placed) → count < length toxics → toxic ≡ get_or toxics count d
+pub compiles-more : (lanes : Lanes) (toxics : List Placed) (count : ℕ) (ops : List Op) (toxic d : Placed) → count < length toxics
+    → toxic ≡ get_or toxics count d
     → All (IsPlaced lanes) toxics → Compiles toxics count ops → Compiles toxics (count + 1) (with_op ops (op_of_placed toxic))
 compiles-more lanes toxics count ops toxic d here is placed so_far =
     let in_range : IsPlaced lanes toxic = subst (IsPlaced lanes) (sym is) (placed count d here) in
@@ -36,11 +37,13 @@ compiles-more lanes toxics count ops toxic d here is placed so_far =
           ∙ sym (fold-append with_op [] before (op_of_placed toxic ∷ []))
           ∙ sym (ap (fold with_op []) with_one);
       few = omega (arith, most, so_far.few);
-      sums = subst (λ most. AddAtMost most (with_op ops (op_of_placed toxic))) more (with_op_adds (3_600_000 * count) 3_600_000 ops (op_of_placed toxic) so_far.sums hour);
+      sums = subst (λ most. AddAtMost most (with_op ops (op_of_placed toxic))) more
+          (with_op_adds (3_600_000 * count) 3_600_000 ops (op_of_placed toxic) so_far.sums hour);
     }
 
 -- what it adds fits
-pub sums_fit : (lanes : Lanes) (toxics : List Placed) (count : ℕ) (ops : List Op) (toxic d : Placed) → count < length toxics → length toxics ≤ 32 → toxic ≡ get_or toxics count d
+pub sums_fit : (lanes : Lanes) (toxics : List Placed) (count : ℕ) (ops : List Op) (toxic d : Placed) → count < length toxics → length toxics ≤ 32
+    → toxic ≡ get_or toxics count d
     → All (IsPlaced lanes) toxics → Compiles toxics count ops → All (λ last. millis_of last + millis_of (op_of_placed toxic) < 4294967296) ops
 sums_fit lanes toxics count ops toxic d here few is placed so_far =
     λ place other within.
@@ -50,6 +53,7 @@ sums_fit lanes toxics count ops toxic d here few is placed so_far =
     omega (arith, hour, so_many, here, few)
 
 -- behind the last toxic the operations are those of all
-pub compiled : (toxics : List Placed) (count : ℕ) (ops : List Op) → length toxics ≤ count → Compiles toxics count ops → ops ≡ fold with_op [] (map op_of_placed toxics)
+pub compiled : (toxics : List Placed) (count : ℕ) (ops : List Op) → length toxics ≤ count → Compiles toxics count ops
+    → ops ≡ fold with_op [] (map op_of_placed toxics)
 compiled toxics count ops past so_far =
     so_far.folded ∙ ap (λ toxics. fold with_op [] (map op_of_placed toxics)) (take_all count toxics past)

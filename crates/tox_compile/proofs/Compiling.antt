@@ -15,14 +15,16 @@ use Rattle.tox_defs.proofs.ChainStreams.{in_range-applied}
 use Rattle.tox_compile.specs.Compiled.{op_of_placed, applied_ops}
 use Rattle.tox_compile.specs.Meaning.{op_reactions, means}
 
-reactions-placed : (draws : Draws) (toxics : List Placed) → op_reactions (map op_of_placed toxics) draws ≡ map (λ placed. toxic_reaction placed.toxic (draws placed.place)) toxics
+reactions-placed : (draws : Draws) (toxics : List Placed) → op_reactions (map op_of_placed toxics) draws
+    ≡ map (λ placed. toxic_reaction placed.toxic (draws placed.place)) toxics
 reactions-placed draws [] = refl
 reactions-placed draws (placed ∷ toxics) =
     ap (λ reaction. reaction ∷ op_reactions (map op_of_placed toxics) draws) ((toxic_facts placed.toxic).reacts placed.place draws)
     ∙ ap (λ reactions. toxic_reaction placed.toxic (draws placed.place) ∷ reactions) (reactions-placed draws toxics)
 
 -- for every list of items
-pub means-applied_ops : (chain : Toxics) (words : List ℕ) (items : List Item) → means (record { lanes = chain.lanes; ops = applied_ops chain words }) words items ≡ chain_flow chain words items
+pub means-applied_ops : (chain : Toxics) (words : List ℕ) (items : List Item)
+    → means (record { lanes = chain.lanes; ops = applied_ops chain words }) words items ≡ chain_flow chain words items
 means-applied_ops chain words items = ap (λ reactions. flow_through reactions items) (reactions-placed (chain_draws chain words) (applied chain words))
 
 operations-placed : (toxics : List Placed) → All (λ placed. IsInRange placed.toxic) toxics → All IsOp (map op_of_placed toxics)

@@ -16,23 +16,30 @@ use Rattle.tox_defs.proofs.FlowLemmas.{flow_from-done}
 use Rattle.tox_defs.proofs.OpenStates.{open_state, has_final-first_bytes}
 
 -- a chunk that a limit lets pass, and one that it ends at
-limit_passes : (bytes : ℕ) (span : Span) (t : ℕ) (items : List Item) (p c n b : ℕ) → nat_lt (span_len span) (bytes - b) ≡ true → flow_from (counted (limit_gives bytes)) (open_state p c n b) (Chunk span t ∷ items) ≡ Chunk span t ∷ flow_from (counted (limit_gives bytes)) (open_state t (c + 1) (n + 1) (b + (span_len span + 0))) items
+limit_passes : (bytes : ℕ) (span : Span) (t : ℕ) (items : List Item) (p c n b : ℕ) → nat_lt (span_len span) (bytes - b) ≡ true
+    → flow_from (counted (limit_gives bytes)) (open_state p c n b) (Chunk span t ∷ items)
+    ≡ Chunk span t ∷ flow_from (counted (limit_gives bytes)) (open_state t (c + 1) (n + 1) (b + (span_len span + 0))) items
 limit_passes bytes span t items p c n b e = rw e refl
 
-limit_ends : (bytes : ℕ) (span : Span) (t : ℕ) (items : List Item) (p c n b : ℕ) → nat_lt (span_len span) (bytes - b) ≡ false → flow_from (counted (limit_gives bytes)) (open_state p c n b) (Chunk span t ∷ items) ≡ first_bytes (bytes - b) span t ++ (Closed t ∷ [])
+limit_ends : (bytes : ℕ) (span : Span) (t : ℕ) (items : List Item) (p c n b : ℕ) → nat_lt (span_len span) (bytes - b) ≡ false
+    → flow_from (counted (limit_gives bytes)) (open_state p c n b) (Chunk span t ∷ items) ≡ first_bytes (bytes - b) span t ++ (Closed t ∷ [])
 limit_ends bytes span t items p c n b e =
     let state : State = state_after (open_state p c n b) (Chunk span t) (first_bytes (bytes - b) span t ++ (Closed t ∷ [])) in
-    rw e (rw (flow_from-done (counted (limit_gives bytes)) state items (has_final-first_bytes (bytes - b) span t (ClosedAt t))) (append-nil (first_bytes (bytes - b) span t ++ (Closed t ∷ []))))
+    rw e (rw (flow_from-done (counted (limit_gives bytes)) state items (has_final-first_bytes (bytes - b) span t (ClosedAt t)))
+    (append-nil (first_bytes (bytes - b) span t ++ (Closed t ∷ []))))
 
 first_bytes-start : (n : ℕ) (span other : Span) (t : ℕ) → span.start ≡ other.start → first_bytes n span t ≡ first_bytes n other t
 first_bytes-start zero span other t same = refl
 first_bytes-start (suc n) span other t same = ap (λ start. Chunk (record { start = start; stop = start + suc n }) t ∷ []) same
 
-limit_on_end_by : (bytes k : ℕ) (span : Span) (t p c n b : ℕ) (e : Bool) → nat_lt (span.start + suc k - span.start) (bytes - b) ≡ e → flow_from (counted (limit_gives bytes)) (open_state p c n b) (first_bytes (suc k) span t ++ (Closed t ∷ [])) ≡ first_bytes (min (suc k) (bytes - b)) span t ++ (Closed t ∷ [])
+limit_on_end_by : (bytes k : ℕ) (span : Span) (t p c n b : ℕ) (e : Bool) → nat_lt (span.start + suc k - span.start) (bytes - b) ≡ e
+    → flow_from (counted (limit_gives bytes)) (open_state p c n b) (first_bytes (suc k) span t ++ (Closed t ∷ []))
+    ≡ first_bytes (min (suc k) (bytes - b)) span t ++ (Closed t ∷ [])
 limit_on_end_by bytes k span t p c n b true e =
     let less = ltb-true (span.start + suc k - span.start) (bytes - b) e in
     let same : suc k ≡ min (suc k) (bytes - b) = omega (arith, less) in
-    limit_passes bytes (record { start = span.start; stop = span.start + suc k }) t (Closed t ∷ []) p c n b e ∙ ap (λ room. first_bytes room span t ++ (Closed t ∷ [])) same
+    limit_passes bytes (record { start = span.start; stop = span.start + suc k }) t (Closed t ∷ []) p c n b e
+    ∙ ap (λ room. first_bytes room span t ++ (Closed t ∷ [])) same
 limit_on_end_by bytes k span t p c n b false e =
     let more = ltb-false (span.start + suc k - span.start) (bytes - b) e in
     let same : bytes - b ≡ min (suc k) (bytes - b) = omega (arith, more) in
@@ -41,15 +48,20 @@ limit_on_end_by bytes k span t p c n b false e =
     ∙ ap (λ room. first_bytes room span t ++ (Closed t ∷ [])) same
 
 -- a limit at what another limit ended
-limit_on_end : (bytes room : ℕ) (span : Span) (t p c n b : ℕ) → flow_from (counted (limit_gives bytes)) (open_state p c n b) (first_bytes room span t ++ (Closed t ∷ [])) ≡ first_bytes (min room (bytes - b)) span t ++ (Closed t ∷ [])
+limit_on_end : (bytes room : ℕ) (span : Span) (t p c n b : ℕ) → flow_from (counted (limit_gives bytes)) (open_state p c n b)
+    (first_bytes room span t ++ (Closed t ∷ [])) ≡ first_bytes (min room (bytes - b)) span t ++ (Closed t ∷ [])
 limit_on_end bytes zero span t p c n b =
     let none : 0 ≡ min 0 (bytes - b) = omega arith in ap (λ room. first_bytes room span t ++ (Closed t ∷ [])) none
 limit_on_end bytes (suc k) span t p c n b = limit_on_end_by bytes k span t p c n b (nat_lt (span.start + suc k - span.start) (bytes - b)) refl
 
 -- two limits
-limits_chunk : (first second : ℕ) (span : Span) (t : ℕ) (items : List Item) (p1 c1 n1 p2 c2 n2 p c n b : ℕ) (e1 e2 : Bool) → nat_lt (span_len span) (first - b) ≡ e1 → nat_lt (span_len span) (second - b) ≡ e2
-    → flow_from (counted (limit_gives second)) (open_state t (c2 + 1) (n2 + 1) (b + (span_len span + 0))) (flow_from (counted (limit_gives first)) (open_state t (c1 + 1) (n1 + 1) (b + (span_len span + 0))) items) ≡ flow_from (counted (limit_gives (min first second))) (open_state t (c + 1) (n + 1) (b + (span_len span + 0))) items
-    → flow_from (counted (limit_gives second)) (open_state p2 c2 n2 b) (flow_from (counted (limit_gives first)) (open_state p1 c1 n1 b) (Chunk span t ∷ items)) ≡ flow_from (counted (limit_gives (min first second))) (open_state p c n b) (Chunk span t ∷ items)
+limits_chunk : (first second : ℕ) (span : Span) (t : ℕ) (items : List Item) (p1 c1 n1 p2 c2 n2 p c n b : ℕ) (e1 e2 : Bool)
+    → nat_lt (span_len span) (first - b) ≡ e1 → nat_lt (span_len span) (second - b) ≡ e2
+    → flow_from (counted (limit_gives second)) (open_state t (c2 + 1) (n2 + 1) (b + (span_len span + 0)))
+    (flow_from (counted (limit_gives first)) (open_state t (c1 + 1) (n1 + 1) (b + (span_len span + 0))) items)
+    ≡ flow_from (counted (limit_gives (min first second))) (open_state t (c + 1) (n + 1) (b + (span_len span + 0))) items
+    → flow_from (counted (limit_gives second)) (open_state p2 c2 n2 b) (flow_from (counted (limit_gives first)) (open_state p1 c1 n1 b) (Chunk span t ∷ items))
+    ≡ flow_from (counted (limit_gives (min first second))) (open_state p c n b) (Chunk span t ∷ items)
 limits_chunk first second span t items p1 c1 n1 p2 c2 n2 p c n b true true t1 t2 others =
     let less1 = ltb-true (span_len span) (first - b) t1 in
     let less2 = ltb-true (span_len span) (second - b) t2 in
@@ -73,7 +85,9 @@ limits_chunk first second span t items p1 c1 n1 p2 c2 n2 p c n b false e2 t1 t2 
     ∙ ap (λ room. first_bytes room span t ++ (Closed t ∷ [])) same
     ∙ sym (limit_ends (min first second) span t items p c n b (le-ltb (span_len span) (min first second - b) (omega (arith, more1))))
 
-pub limits_join : (first second : ℕ) (items : List Item) (p1 c1 n1 p2 c2 n2 p c n b position since : ℕ) → IsStreamFrom position since items → flow_from (counted (limit_gives second)) (open_state p2 c2 n2 b) (flow_from (counted (limit_gives first)) (open_state p1 c1 n1 b) items) ≡ flow_from (counted (limit_gives (min first second))) (open_state p c n b) items
+pub limits_join : (first second : ℕ) (items : List Item) (p1 c1 n1 p2 c2 n2 p c n b position since : ℕ) → IsStreamFrom position since items
+    → flow_from (counted (limit_gives second)) (open_state p2 c2 n2 b) (flow_from (counted (limit_gives first)) (open_state p1 c1 n1 b) items)
+    ≡ flow_from (counted (limit_gives (min first second))) (open_state p c n b) items
 limits_join first second [] p1 c1 n1 p2 c2 n2 p c n b position since stream = refl
 limits_join first second (Chunk span t ∷ items) p1 c1 n1 p2 c2 n2 p c n b position since stream =
     limits_chunk first second span t items p1 c1 n1 p2 c2 n2 p c n b (nat_lt (span_len span) (first - b)) (nat_lt (span_len span) (second - b)) refl refl

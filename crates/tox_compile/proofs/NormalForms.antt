@@ -37,9 +37,11 @@ pub record TakesIn (draws : Draws) (before : List Op) (op : Op) (after : List Op
 pub IsStream-given_by : (draws : Draws) (ops : List Op) (items : List Item) → All IsOp ops → IsStream items → IsStream (given_by draws ops items)
 IsStream-given_by draws [] items fits stream = stream
 IsStream-given_by draws (op ∷ ops) items fits stream =
-    IsStream-given_by draws ops (flow (op_reaction op draws) items) (All-tail IsOp op ops fits) (IsStream-op_flow op draws items (All-head IsOp op ops fits) stream)
+    IsStream-given_by draws ops (flow (op_reaction op draws) items) (All-tail IsOp op ops fits)
+    (IsStream-op_flow op draws items (All-head IsOp op ops fits) stream)
 
-takes_one_or_two : (draws : Draws) (last op : Op) (one : Option Op) → IsOp last → IsOp op → IsJoint draws last op one → TakesIn draws (last ∷ []) op (one_or_two one last op)
+takes_one_or_two : (draws : Draws) (last op : Op) (one : Option Op) → IsOp last → IsOp op → IsJoint draws last op one
+    → TakesIn draws (last ∷ []) op (one_or_two one last op)
 takes_one_or_two draws last op None fits fits' joint =
     record { operations = All-cons IsOp last (op ∷ []) fits (All-cons IsOp op [] fits' (All-nil IsOp)); same = λ items stream. refl }
 takes_one_or_two draws last op (Some one) fits fits' joint = record { operations = All-cons IsOp one [] joint.is_op (All-nil IsOp); same = joint.same }
@@ -50,7 +52,8 @@ takes_last draws (last ∷ []) op fits fits' =
     let is_last : IsOp last = All-head IsOp last [] fits in takes_one_or_two draws last op (joined last op) is_last fits' (is_joint draws last op is_last fits')
 takes_last draws (first ∷ second ∷ ops) op fits fits' =
     let is_first : IsOp first = All-head IsOp first (second ∷ ops) fits in
-    let others : TakesIn draws (second ∷ ops) op (with_last (second ∷ ops) op) = takes_last draws (second ∷ ops) op (All-tail IsOp first (second ∷ ops) fits) fits' in
+    let others : TakesIn draws (second ∷ ops) op (with_last (second ∷ ops) op) =
+    takes_last draws (second ∷ ops) op (All-tail IsOp first (second ∷ ops) fits) fits' in
     record {
       operations = All-cons IsOp first (with_last (second ∷ ops) op) is_first others.operations;
       same = λ items stream. others.same (flow (op_reaction first draws) items) (IsStream-op_flow first draws items is_first stream);
@@ -66,7 +69,8 @@ delay_same draws fixed latency jitter lane until from items normal none no_jitte
 -- what vanishes changes no stream
 vanishes_same : (draws : Draws) (op : Op) (items : List Item) → vanishes op ≡ true → IsOp op → IsStream items → flow (op_reaction op draws) items ≡ items
 vanishes_same draws (Delay fixed latency jitter lane until from) items e fits stream =
-    let none = and_parts (fixed == 0) (jitter == 0) e in delay_same draws fixed latency jitter lane until from items fits (eqb-true fixed 0 none.0) (eqb-true jitter 0 none.1) stream
+    let none = and_parts (fixed == 0) (jitter == 0) e in delay_same draws fixed latency jitter lane until from items fits (eqb-true fixed 0 none.0)
+    (eqb-true jitter 0 none.1) stream
 vanishes_same draws (Slow millis) items e fits stream =
     let none : millis ≡ 0 = eqb-true millis 0 e in ap (λ millis. flow (op_reaction (Slow millis) draws) items) none ∙ slow_vanishes items 0 0 0 0 0 0 stream
 vanishes_same draws (Pace rate until from) items e fits stream = absurd (cc)
@@ -76,9 +80,14 @@ vanishes_same draws (Slicing average variation micros lane until from) items e f
 vanishes_same draws (Limit bytes) items e fits stream = absurd (cc)
 vanishes_same draws (Halt at after end) items e fits stream = absurd (cc)
 
-takes_by : (draws : Draws) (ops : List Op) (op : Op) (e : Bool) → vanishes op ≡ e → All IsOp ops → IsOp op → TakesIn draws ops op (if e then ops else with_last ops op)
+takes_by : (draws : Draws) (ops : List Op) (op : Op) (e : Bool) → vanishes op ≡ e → All IsOp ops → IsOp op
+    → TakesIn draws ops op (if e then ops else with_last ops op)
 takes_by draws ops op true e fits fits' =
-    record { operations = fits; same = λ items stream. sym (vanishes_same draws op (given_by draws ops items) e fits' (IsStream-given_by draws ops items fits stream)) }
+    record {
+      operations = fits;
+      same = λ items stream. sym (vanishes_same draws op (given_by draws ops items) e fits'
+          (IsStream-given_by draws ops items fits stream));
+    }
 takes_by draws ops op false e fits fits' = takes_last draws ops op fits fits'
 
 pub takes_op : (draws : Draws) (ops : List Op) (op : Op) → All IsOp ops → IsOp op → TakesIn draws ops op (with_op ops op)
@@ -88,11 +97,13 @@ takes_op draws ops (Mute end) fits fits' = record {
       flow_from-muted (final_of end) items 0 0 0 0 0 0 stream
       ∙ sym (flow_from-muted (final_of end) (given_by draws ops items) 0 0 0 0 0 0 (IsStream-given_by draws ops items fits stream));
 }
-takes_op draws ops (Delay fixed latency jitter lane until from) fits fits' = takes_by draws ops (Delay fixed latency jitter lane until from) (vanishes (Delay fixed latency jitter lane until from)) refl fits fits'
+takes_op draws ops (Delay fixed latency jitter lane until from) fits fits' =
+    takes_by draws ops (Delay fixed latency jitter lane until from) (vanishes (Delay fixed latency jitter lane until from)) refl fits fits'
 takes_op draws ops (Pace rate until from) fits fits' = takes_by draws ops (Pace rate until from) false refl fits fits'
 takes_op draws ops (Slow millis) fits fits' = takes_by draws ops (Slow millis) (vanishes (Slow millis)) refl fits fits'
 takes_op draws ops (Cutoff instant) fits fits' = takes_by draws ops (Cutoff instant) false refl fits fits'
-takes_op draws ops (Slicing average variation micros lane until from) fits fits' = takes_by draws ops (Slicing average variation micros lane until from) false refl fits fits'
+takes_op draws ops (Slicing average variation micros lane until from) fits fits' =
+    takes_by draws ops (Slicing average variation micros lane until from) false refl fits fits'
 takes_op draws ops (Limit bytes) fits fits' = takes_by draws ops (Limit bytes) false refl fits fits'
 takes_op draws ops (Halt at after end) fits fits' = takes_by draws ops (Halt at after end) false refl fits fits'
 
@@ -112,10 +123,13 @@ operations-fold draws before (op ∷ ops) fits fits' =
     operations-fold draws (with_op before op) ops taken.operations (All-tail IsOp op ops fits')
 
 -- the normal form means what the chain means
-pub means-normal_form : (chain : Toxics) (words : List ℕ) (items : List Item) → IsChain chain → IsStream items → means (record { lanes = chain.lanes; ops = normal_form chain words }) words items ≡ chain_flow chain words items
+pub means-normal_form : (chain : Toxics) (words : List ℕ) (items : List Item) → IsChain chain → IsStream items
+    → means (record { lanes = chain.lanes; ops = normal_form chain words }) words items ≡ chain_flow chain words items
 means-normal_form chain words items fits stream =
-    given_by-fold (chain_draws chain words) [] (applied_ops chain words) items (All-nil IsOp) (operations-applied_ops chain words fits) stream ∙ means-applied_ops chain words items
+    given_by-fold (chain_draws chain words) [] (applied_ops chain words) items (All-nil IsOp) (operations-applied_ops chain words fits) stream
+    ∙ means-applied_ops chain words items
 
 -- its operations are operations that a plan may have
 pub operations-normal_form : (chain : Toxics) (words : List ℕ) → IsChain chain → All IsOp (normal_form chain words)
-operations-normal_form chain words fits = operations-fold (chain_draws chain words) [] (applied_ops chain words) (All-nil IsOp) (operations-applied_ops chain words fits)
+operations-normal_form chain words fits = operations-fold (chain_draws chain words) [] (applied_ops chain words) (All-nil IsOp)
+    (operations-applied_ops chain words fits)

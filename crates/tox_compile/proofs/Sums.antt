@@ -1,5 +1,6 @@
 -- One more operation: where it goes, how many there are then, and what they add.
-use Rattle.std.proofs.Common.{◌≡◌, ℕ, zero, suc, ◌+◌, ◌≤◌, min, Bool, true, false, List, [], ◌∷◌, ◌++◌, length, Option, Some, None, refl, arith, ap, if◌then◌else◌}
+use Rattle.std.proofs.Common.{◌≡◌, ℕ, zero, suc, ◌+◌, ◌≤◌, min, Bool, true, false, List, [], ◌∷◌, ◌++◌, length, Option, Some, None, refl, arith, ap}
+use Rattle.std.proofs.Common.{if◌then◌else◌}
 use Rattle.std.specs.Prelude.{◌==◌, All}
 use Rattle.std.proofs.Math.Dec.{eqb-suc-zero}
 use Rattle.std.proofs.lemmas.List.Elements.{All-nil, All-cons, All-head, All-tail}
@@ -15,7 +16,8 @@ with_last-append (first ∷ []) last op = refl
 with_last-append (first ∷ second ∷ front) last op = ap (λ ops. first ∷ ops) (with_last-append (second ∷ front) last op)
 
 pub with_op-vanishing : (ops : List Op) (op : Op) → vanishes op ≡ true → with_op ops op ≡ ops
-with_op-vanishing ops (Delay fixed latency jitter lane until from) e = ap (λ none. if none then ops else with_last ops (Delay fixed latency jitter lane until from)) e
+with_op-vanishing ops (Delay fixed latency jitter lane until from) e = ap
+    (λ none. if none then ops else with_last ops (Delay fixed latency jitter lane until from)) e
 with_op-vanishing ops (Slow millis) e = ap (λ none. if none then ops else with_last ops (Slow millis)) e
 with_op-vanishing ops (Pace rate until from) e = absurd (cc)
 with_op-vanishing ops (Mute end) e = absurd (cc)
@@ -25,7 +27,8 @@ with_op-vanishing ops (Limit bytes) e = absurd (cc)
 with_op-vanishing ops (Halt at after end) e = absurd (cc)
 
 pub with_op-staying : (ops : List Op) (op : Op) → is_mute op ≡ false → vanishes op ≡ false → with_op ops op ≡ with_last ops op
-with_op-staying ops (Delay fixed latency jitter lane until from) heard e = ap (λ none. if none then ops else with_last ops (Delay fixed latency jitter lane until from)) e
+with_op-staying ops (Delay fixed latency jitter lane until from) heard e =
+    ap (λ none. if none then ops else with_last ops (Delay fixed latency jitter lane until from)) e
 with_op-staying ops (Slow millis) heard e = ap (λ none. if none then ops else with_last ops (Slow millis)) e
 with_op-staying ops (Pace rate until from) heard e = refl
 with_op-staying ops (Mute end) heard e = absurd (cc)
@@ -50,7 +53,8 @@ length-by ops op false = length-with_last ops op
 -- at most one more
 pub length-with_op : (ops : List Op) (op : Op) → length (with_op ops op) ≤ length ops + 1
 length-with_op ops (Mute end) = omega arith
-length-with_op ops (Delay fixed latency jitter lane until from) = length-by ops (Delay fixed latency jitter lane until from) (vanishes (Delay fixed latency jitter lane until from))
+length-with_op ops (Delay fixed latency jitter lane until from) = length-by ops (Delay fixed latency jitter lane until from)
+    (vanishes (Delay fixed latency jitter lane until from))
 length-with_op ops (Slow millis) = length-by ops (Slow millis) (vanishes (Slow millis))
 length-with_op ops (Pace rate until from) = length-with_last ops (Pace rate until from)
 length-with_op ops (Cutoff instant) = length-with_last ops (Cutoff instant)
@@ -69,23 +73,32 @@ two_add : (most : ℕ) (first second : Op) → millis_of first ≤ most → mill
 two_add most first second fits fits' = All-cons (λ op. millis_of op ≤ most) first (second ∷ []) fits (one_adds most second fits')
 
 delays_add : (most n fixed latency jitter lane more latency' jitter' lane' : ℕ) (none' none : Bool) → fixed ≤ most → more ≤ n
-    → AddAtMost (most + n) (one_or_two (if none' then Some (Delay (fixed + more) latency jitter lane 0 0) else if none then Some (Delay (fixed + more) latency' jitter' lane' 0 0) else None)
+    → AddAtMost (most + n) (one_or_two (if none' then Some (Delay (fixed + more) latency jitter lane 0 0) else if none then Some
+    (Delay (fixed + more) latency' jitter' lane' 0 0) else None)
     (Delay fixed latency jitter lane 0 0) (Delay more latency' jitter' lane' 0 0))
-delays_add most n fixed latency jitter lane more latency' jitter' lane' true none fits fits' = one_adds (most + n) (Delay (fixed + more) latency jitter lane 0 0) (omega (arith, fits, fits'))
-delays_add most n fixed latency jitter lane more latency' jitter' lane' false true fits fits' = one_adds (most + n) (Delay (fixed + more) latency' jitter' lane' 0 0) (omega (arith, fits, fits'))
+delays_add most n fixed latency jitter lane more latency' jitter' lane' true none fits fits' =
+    one_adds (most + n) (Delay (fixed + more) latency jitter lane 0 0) (omega (arith, fits, fits'))
+delays_add most n fixed latency jitter lane more latency' jitter' lane' false true fits fits' =
+    one_adds (most + n) (Delay (fixed + more) latency' jitter' lane' 0 0) (omega (arith, fits, fits'))
 delays_add most n fixed latency jitter lane more latency' jitter' lane' false false fits fits' =
     two_add (most + n) (Delay fixed latency jitter lane 0 0) (Delay more latency' jitter' lane' 0 0) (omega (arith, fits)) (omega (arith, fits'))
 
-joined_adds : (most n : ℕ) (first second : Op) → millis_of first ≤ most → millis_of second ≤ n → AddAtMost (most + n) (one_or_two (joined first second) first second)
-joined_adds most n (Delay fixed latency jitter lane zero zero) (Delay more latency' jitter' lane' zero zero) fits fits' = delays_add most n fixed latency jitter lane more latency' jitter' lane' (jitter' == 0) (jitter == 0) fits fits'
+joined_adds : (most n : ℕ) (first second : Op) → millis_of first ≤ most → millis_of second ≤ n
+    → AddAtMost (most + n) (one_or_two (joined first second) first second)
+joined_adds most n (Delay fixed latency jitter lane zero zero) (Delay more latency' jitter' lane' zero zero) fits fits' =
+    delays_add most n fixed latency jitter lane more latency' jitter' lane' (jitter' == 0) (jitter == 0) fits fits'
 joined_adds most n (Delay fixed latency jitter lane (suc until) from) (Delay more latency' jitter' lane' until' from') fits fits' =
-    rw (eqb-suc-zero until) (two_add (most + n) (Delay fixed latency jitter lane (suc until) from) (Delay more latency' jitter' lane' until' from') (omega (arith, fits)) (omega (arith, fits')))
+    rw (eqb-suc-zero until) (two_add (most + n) (Delay fixed latency jitter lane (suc until) from) (Delay more latency' jitter' lane' until' from')
+    (omega (arith, fits)) (omega (arith, fits')))
 joined_adds most n (Delay fixed latency jitter lane zero (suc from)) (Delay more latency' jitter' lane' until' from') fits fits' =
-    rw (eqb-suc-zero from) (two_add (most + n) (Delay fixed latency jitter lane 0 (suc from)) (Delay more latency' jitter' lane' until' from') (omega (arith, fits)) (omega (arith, fits')))
+    rw (eqb-suc-zero from) (two_add (most + n) (Delay fixed latency jitter lane 0 (suc from)) (Delay more latency' jitter' lane' until' from')
+    (omega (arith, fits)) (omega (arith, fits')))
 joined_adds most n (Delay fixed latency jitter lane zero zero) (Delay more latency' jitter' lane' (suc until) from') fits fits' =
-    rw (eqb-suc-zero until) (two_add (most + n) (Delay fixed latency jitter lane 0 0) (Delay more latency' jitter' lane' (suc until) from') (omega (arith, fits)) (omega (arith, fits')))
+    rw (eqb-suc-zero until) (two_add (most + n) (Delay fixed latency jitter lane 0 0) (Delay more latency' jitter' lane' (suc until) from')
+    (omega (arith, fits)) (omega (arith, fits')))
 joined_adds most n (Delay fixed latency jitter lane zero zero) (Delay more latency' jitter' lane' zero (suc from)) fits fits' =
-    rw (eqb-suc-zero from) (two_add (most + n) (Delay fixed latency jitter lane 0 0) (Delay more latency' jitter' lane' 0 (suc from)) (omega (arith, fits)) (omega (arith, fits')))
+    rw (eqb-suc-zero from) (two_add (most + n) (Delay fixed latency jitter lane 0 0) (Delay more latency' jitter' lane' 0 (suc from)) (omega (arith, fits))
+    (omega (arith, fits')))
 joined_adds most n (Slow millis) (Slow more) fits fits' = one_adds (most + n) (Slow (millis + more)) (omega (arith, fits, fits'))
 joined_adds most n (Limit bytes) (Limit other) fits fits' = one_adds (most + n) (Limit (min bytes other)) (omega arith)
 joined_adds most n (Cutoff instant) (Cutoff other) fits fits' = one_adds (most + n) (Cutoff (min instant other)) (omega arith)
@@ -106,17 +119,20 @@ still_adds most n (op ∷ ops) fits =
     let is_first : millis_of op ≤ most = All-head (λ op. millis_of op ≤ most) op ops fits in
     All-cons (λ op. millis_of op ≤ most + n) op ops (omega (arith, is_first)) (still_adds most n ops (All-tail (λ op. millis_of op ≤ most) op ops fits))
 
-adds_by : (most n : ℕ) (ops : List Op) (op : Op) (none : Bool) → AddAtMost most ops → millis_of op ≤ n → AddAtMost (most + n) (if none then ops else with_last ops op)
+adds_by : (most n : ℕ) (ops : List Op) (op : Op) (none : Bool) → AddAtMost most ops → millis_of op ≤ n
+    → AddAtMost (most + n) (if none then ops else with_last ops op)
 adds_by most n ops op true fits fits' = still_adds most n ops fits
 adds_by most n ops op false fits fits' = with_last_adds most n ops op fits fits'
 
 -- each adds at most what the new one adds more
 pub with_op_adds : (most n : ℕ) (ops : List Op) (op : Op) → AddAtMost most ops → millis_of op ≤ n → AddAtMost (most + n) (with_op ops op)
 with_op_adds most n ops (Mute end) fits fits' = one_adds (most + n) (Mute end) (omega arith)
-with_op_adds most n ops (Delay fixed latency jitter lane until from) fits fits' = adds_by most n ops (Delay fixed latency jitter lane until from) (vanishes (Delay fixed latency jitter lane until from)) fits fits'
+with_op_adds most n ops (Delay fixed latency jitter lane until from) fits fits' =
+    adds_by most n ops (Delay fixed latency jitter lane until from) (vanishes (Delay fixed latency jitter lane until from)) fits fits'
 with_op_adds most n ops (Slow millis) fits fits' = adds_by most n ops (Slow millis) (vanishes (Slow millis)) fits fits'
 with_op_adds most n ops (Pace rate until from) fits fits' = with_last_adds most n ops (Pace rate until from) fits fits'
 with_op_adds most n ops (Cutoff instant) fits fits' = with_last_adds most n ops (Cutoff instant) fits fits'
-with_op_adds most n ops (Slicing average variation micros lane until from) fits fits' = with_last_adds most n ops (Slicing average variation micros lane until from) fits fits'
+with_op_adds most n ops (Slicing average variation micros lane until from) fits fits' =
+    with_last_adds most n ops (Slicing average variation micros lane until from) fits fits'
 with_op_adds most n ops (Limit bytes) fits fits' = with_last_adds most n ops (Limit bytes) fits fits'
 with_op_adds most n ops (Halt at after end) fits fits' = with_last_adds most n ops (Halt at after end) fits fits'

@@ -26,10 +26,12 @@ still n none = omega (arith, ltb-false 0 n none)
 reaction-undrawn : (words other : Draws) (op : Op) → IsOp op → op_draws op ≡ false → op_reaction op words ≡ op_reaction op other
 reaction-undrawn words other (Delay fixed latency jitter lane until from) normal none =
     ap (λ giving. during from until (counted giving))
-    (giving-fixed fixed latency jitter lane until from words normal (still jitter none) ∙ sym (giving-fixed fixed latency jitter lane until from other normal (still jitter none)))
+    (giving-fixed fixed latency jitter lane until from words normal (still jitter none)
+    ∙ sym (giving-fixed fixed latency jitter lane until from other normal (still jitter none)))
 reaction-undrawn words other (Slicing average variation micros lane until from) less none =
     let sizes : (piece : ℕ) → varied average variation (words lane (1 + piece)) ≡ varied average variation (other lane (1 + piece))
-    = λ piece. varied-still average variation (words lane (1 + piece)) (still variation none) ∙ sym (varied-still average variation (other lane (1 + piece)) (still variation none)) in
+    = λ piece. varied-still average variation (words lane (1 + piece)) (still variation none)
+    ∙ sym (varied-still average variation (other lane (1 + piece)) (still variation none)) in
     ap (λ size. during from until (counted (slicing_gives size micros))) (fun_ext sizes)
 reaction-undrawn words other (Pace rate until from) fits none = refl
 reaction-undrawn words other (Slow millis) fits none = refl

@@ -1,5 +1,6 @@
 -- The entries that are given have distinct names, and are few.
-use Rattle.std.proofs.Common.{◌≡◌, ℕ, zero, suc, ◌≤◌, Bool, true, false, cond, not, List, [], ◌∷◌, Option, Some, None, Ok, length, map, slice_get, arith, refl, ◌∙◌}
+use Rattle.std.proofs.Common.{◌≡◌, ℕ, zero, suc, ◌≤◌, Bool, true, false, cond, not, List, [], ◌∷◌, Option, Some, None, Ok, length, map, slice_get, arith, refl}
+use Rattle.std.proofs.Common.{◌∙◌}
 use Rattle.std.specs.List.{AllByRecursion, IsDistinct}
 use Rattle.std.specs.Str.{bytes_eq}
 use Rattle.std.proofs.lemmas.List.{length-map}
@@ -65,7 +66,8 @@ unless_fault-Ok None found entries gives = cc
 unless_fault-Ok (Some fault) found entries gives = absurd (cc)
 
 -- by what stands behind the last name that is allowed
-given : (front : Front) (further : Option (List ℕ)) → slice_get (names_of front.proxies) most_names ≡ further → (entries : List Proxy) → unless_too_many further front ≡ Ok entries → AreEntries entries
+given : (front : Front) (further : Option (List ℕ)) → slice_get (names_of front.proxies) most_names ≡ further → (entries : List Proxy)
+    → unless_too_many further front ≡ Ok entries → AreEntries entries
 given front (Some name) is entries gives = absurd (cc)
 given front None is entries gives =
     let proxies = front.proxies in

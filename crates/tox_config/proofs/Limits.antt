@@ -1,5 +1,6 @@
 -- Where the limit on the names stops a file.
-use Rattle.std.proofs.Common.{◌≡◌, ℕ, zero, suc, ◌<◌, ◌≤◌, Bool, true, false, cond, not, ◌||◌, List, [], ◌∷◌, ◌++◌, Option, Some, None, Err, length, map, slice_get, arith, refl, sym, ap, ◌∙◌, true≢false, append_assoc, append-nil, length-append}
+use Rattle.std.proofs.Common.{◌≡◌, ℕ, zero, suc, ◌<◌, ◌≤◌, Bool, true, false, cond, not, ◌||◌, List, [], ◌∷◌, ◌++◌, Option, Some, None, Err, length, map}
+use Rattle.std.proofs.Common.{slice_get, arith, refl, sym, ap, ◌∙◌, true≢false, append_assoc, append-nil, length-append}
 use Rattle.std.specs.List.{list_any, position_or_len}
 use Rattle.std.proofs.lemmas.List.{length-map}
 use Rattle.std.proofs.lemmas.Map.Views.{any-filter_same}
@@ -17,9 +18,11 @@ abbrev pub onto : List Proxy → Front → Front
 onto done front = record front { proxies = done ++ front.proxies }
 
 -- a front of few names gives its entries, or its fault
-pub populated-few : (done : List Proxy) (fault : Option ConfigFault) → length (entries_of done) ≤ most_names → populated (record { proxies = done; fault = fault }) ≡ unless_fault fault (entries_of done)
+pub populated-few : (done : List Proxy) (fault : Option ConfigFault) → length (entries_of done) ≤ most_names
+    → populated (record { proxies = done; fault = fault }) ≡ unless_fault fault (entries_of done)
 populated-few done fault few =
-    let none : slice_get (names_of done) most_names ≡ None = slice_get_past (names_of done) most_names (omega (arith, length-map (entries_of done) (λ (p : Proxy). p.name))) in
+    let none : slice_get (names_of done) most_names ≡ None = slice_get_past (names_of done) most_names
+    (omega (arith, length-map (entries_of done) (λ (p : Proxy). p.name))) in
     rw none refl
 
 -- a proxy of a new name goes last
@@ -27,7 +30,8 @@ put-new : (p : Proxy) (qs : List Proxy) → list_any (is_named p.name) qs ≡ fa
 put-new p [] new = refl
 put-new p (q ∷ qs) new = at (is_named p.name q) refl new (put-new p qs)
   where
-    at : (b : Bool) → is_named p.name q ≡ b → (b || list_any (is_named p.name) qs) ≡ false → (list_any (is_named p.name) qs ≡ false → put p qs ≡ qs ++ p ∷ []) → put p (q ∷ qs) ≡ q ∷ qs ++ p ∷ []
+    at : (b : Bool) → is_named p.name q ≡ b → (b || list_any (is_named p.name) qs) ≡ false → (list_any (is_named p.name) qs ≡ false → put p qs ≡ qs ++ p ∷ [])
+        → put p (q ∷ qs) ≡ q ∷ qs ++ p ∷ []
     at true is known rest = absurd (true≢false known)
     at false is known rest = rw is (ap (λ others. q ∷ others) (rest known))
 
@@ -36,7 +40,8 @@ length-put_known : (p : Proxy) (qs : List Proxy) → list_any (is_named p.name) 
 length-put_known p [] known = absurd (true≢false (sym known))
 length-put_known p (q ∷ qs) known = at (is_named p.name q) refl known (length-put_known p qs)
   where
-    at : (b : Bool) → is_named p.name q ≡ b → (b || list_any (is_named p.name) qs) ≡ true → (list_any (is_named p.name) qs ≡ true → length (put p qs) ≡ length qs) → length (put p (q ∷ qs)) ≡ suc (length qs)
+    at : (b : Bool) → is_named p.name q ≡ b → (b || list_any (is_named p.name) qs) ≡ true
+        → (list_any (is_named p.name) qs ≡ true → length (put p qs) ≡ length qs) → length (put p (q ∷ qs)) ≡ suc (length qs)
     at true is there rest = rw is refl
     at false is there rest = rw is (ap suc (rest there))
 
@@ -50,7 +55,8 @@ name-put p (q ∷ qs) zero within = at (is_named p.name q) refl
     at false is = refl
 name-put p (q ∷ qs) (suc k) within = at (is_named p.name q) (name-put p qs k (omega arith))
   where
-    at : (b : Bool) → slice_get (map (λ o. o.name) (put p qs)) k ≡ slice_get (map (λ o. o.name) qs) k → slice_get (map (λ o. o.name) (cond b (p ∷ qs) (q ∷ put p qs))) (suc k) ≡ slice_get (map (λ o. o.name) qs) k
+    at : (b : Bool) → slice_get (map (λ o. o.name) (put p qs)) k ≡ slice_get (map (λ o. o.name) qs) k
+        → slice_get (map (λ o. o.name) (cond b (p ∷ qs) (q ∷ put p qs))) (suc k) ≡ slice_get (map (λ o. o.name) qs) k
     at true rest = refl
     at false rest = rest
 
@@ -82,14 +88,17 @@ list_any-entries_of name (x ∷ xs) = at (is_named name x) refl (list_any-entrie
     at : (b : Bool) → is_named name x ≡ b → list_any (is_named name) (entries_of xs) ≡ list_any (is_named name) xs
         → (is_named name (last_named x xs) || list_any (is_named name) (others_of x.name (entries_of xs))) ≡ (is_named name x || list_any (is_named name) xs)
     at true is rest = rw (first, is) refl
-    at false is rest = rw (first, is) (any-filter_same (is_named name) (λ q. not (is_named x.name q)) true (λ q named. ap not (is_named-other name x q is named)) (entries_of xs) ∙ rest)
+    at false is rest = rw (first, is) (any-filter_same (is_named name) (λ q. not (is_named x.name q)) true
+        (λ q named. ap not (is_named-other name x q is named)) (entries_of xs) ∙ rest)
 
 -- the first place that passes is behind the elements that do not
-position_or_len-new : {X : Type 0} (t : X → Bool) (xs : List X) (y : X) (ys : List X) → list_any t xs ≡ false → t y ≡ true → position_or_len t (xs ++ y ∷ ys) ≡ length xs
+position_or_len-new : {X : Type 0} (t : X → Bool) (xs : List X) (y : X) (ys : List X) → list_any t xs ≡ false → t y ≡ true
+    → position_or_len t (xs ++ y ∷ ys) ≡ length xs
 position_or_len-new t [] y ys new here = rw here refl
 position_or_len-new t (x ∷ xs) y ys new here = at (t x) refl new (λ n. position_or_len-new t xs y ys n here)
   where
-    at : (b : Bool) → t x ≡ b → (b || list_any t xs) ≡ false → (list_any t xs ≡ false → position_or_len t (xs ++ y ∷ ys) ≡ length xs) → position_or_len t (x ∷ xs ++ y ∷ ys) ≡ suc (length xs)
+    at : (b : Bool) → t x ≡ b → (b || list_any t xs) ≡ false → (list_any t xs ≡ false → position_or_len t (xs ++ y ∷ ys) ≡ length xs)
+        → position_or_len t (x ∷ xs ++ y ∷ ys) ≡ suc (length xs)
     at true is known rest = absurd (true≢false known)
     at false is known rest = rw (is, rest known) (omega arith)
 
@@ -112,7 +121,8 @@ populated-many done p front few many = at (list_any (is_named p.name) (entries_o
         let last : entries_of (done ++ p ∷ []) ≡ entries_of done ++ p ∷ [] = entries_of-push done p ∙ put-new p (entries_of done) new in
         let full : length (entries_of done) ≡ most_names = omega (arith, ap length last, length-append (entries_of done) (p ∷ [])) in
         let name : slice_get (names_of ((done ++ p ∷ []) ++ proxies)) most_names ≡ Some p.name =
-        names_of-append proxies (done ++ p ∷ []) most_names many ∙ ap (λ es. slice_get (map (λ q. q.name) es) most_names) last ∙ name-push (entries_of done) p most_names full in
+        names_of-append proxies (done ++ p ∷ []) most_names many ∙ ap (λ es. slice_get (map (λ q. q.name) es) most_names) last
+        ∙ name-push (entries_of done) p most_names full in
         let place : position_or_len (is_named p.name) ((done ++ p ∷ []) ++ proxies) ≡ length done =
         ap (position_or_len (is_named p.name)) (append_assoc done (p ∷ []) proxies)
         ∙ position_or_len-new (is_named p.name) done p proxies (sym (list_any-entries_of p.name done) ∙ new) (is_named-itself p) in

@@ -24,7 +24,8 @@ passes_behind text j k none from within =
     ap not (is_colon-other (get_or text k 0) (λ e. other (read ∙ e)))
 
 -- what follows the last colon, where `rsplit_once` found it
-pub ends_in_port-found : (text port : List ℕ) (i j : ℕ) → NoCharPasses is_colon (drop j text) × HasCharAt 58 text i j → port ≡ drop j text → length port + j ≡ length text → ends_in_port text ≡ is_port port
+pub ends_in_port-found : (text port : List ℕ) (i j : ℕ) → NoCharPasses is_colon (drop j text) × HasCharAt 58 text i j → port ≡ drop j text
+    → length port + j ≡ length text → ends_in_port text ≡ is_port port
 ends_in_port-found text port i j found cut whole =
     let after : j ≡ i + 1 = found.1.ends in
     let colon : get_or text i 0 ≡ 58 = found.1.byte (omega arith) in
@@ -40,5 +41,6 @@ ends_in_port-found text port i j found cut whole =
 pub ends_in_port-none : (text : List ℕ) → NoCharPasses is_colon text → ends_in_port text ≡ false
 ends_in_port-none text none =
     let absent : list_any is_colon text ≡ false =
-    list_any_none is_colon text (λ k d within. is_colon-other (get_or text k d) (λ e. NoCharPasses-char 58 text k none (omega arith) within (get_or_default text k 0 d within ∙ e))) in
+    list_any_none is_colon text (λ k d within. is_colon-other (get_or text k d)
+    (λ e. NoCharPasses-char 58 text k none (omega arith) within (get_or_default text k 0 d within ∙ e))) in
     rw absent refl

@@ -1,5 +1,6 @@
 -- What one more proxy changes in the entries: it takes the place of the one of its name, or goes last.
-use Rattle.std.proofs.Common.{◌≡◌, ℕ, zero, suc, ◌+◌, ◌<◌, ◌≤◌, Bool, true, false, cond, not, List, [], ◌∷◌, ◌++◌, None, true≢false, filter, fold, get_or, length, map, position, set, arith, refl, sym, ap, ◌∙◌}
+use Rattle.std.proofs.Common.{◌≡◌, ℕ, zero, suc, ◌+◌, ◌<◌, ◌≤◌, Bool, true, false, cond, not, List, [], ◌∷◌, ◌++◌, None, true≢false, filter, fold, get_or}
+use Rattle.std.proofs.Common.{length, map, position, set, arith, refl, sym, ap, ◌∙◌}
 use Rattle.std.specs.List.{position_or_len}
 use Rattle.std.proofs.lemmas.Bool.Decides.{nat_tests}
 use Rattle.std.proofs.lemmas.List.Sums.{fold-append}
@@ -35,7 +36,8 @@ others_of-put_same : (name : List ℕ) (p : Proxy) (qs : List Proxy) → is_name
 others_of-put_same name p [] named = rw named refl
 others_of-put_same name p (q ∷ qs) named = at (is_named p.name q) refl (others_of-put_same name p qs named)
   where
-    at : (b : Bool) → is_named p.name q ≡ b → others_of name (put p qs) ≡ others_of name qs → others_of name (cond b (p ∷ qs) (q ∷ put p qs)) ≡ others_of name (q ∷ qs)
+    at : (b : Bool) → is_named p.name q ≡ b → others_of name (put p qs) ≡ others_of name qs
+        → others_of name (cond b (p ∷ qs) (q ∷ put p qs)) ≡ others_of name (q ∷ qs)
     at true is rest = let same : is_named name q ≡ true = is_named-same name q p (name-is_named p.name q is) ∙ named in rw (named, same) refl
     at false is rest = ap (λ others. cond (not (is_named name q)) (q ∷ others) others) rest
 
@@ -76,12 +78,14 @@ put-found f e (x ∷ xs) (suc i) within here before =
     rw other (ap (λ rest. f x ∷ rest) (put-found f e xs i (omega arith) here (λ k below. before (suc k) (omega arith))))
 
 -- a proxy that is put last, since none has its name
-pub put-missing : {X : Type 0} (f : X → Proxy) (e : X) (xs : List X) → length xs ≤ position_or_len (λ x. is_named (f e).name (f x)) xs → map f (xs ++ e ∷ []) ≡ put (f e) (map f xs)
+pub put-missing : {X : Type 0} (f : X → Proxy) (e : X) (xs : List X) → length xs ≤ position_or_len (λ x. is_named (f e).name (f x)) xs
+    → map f (xs ++ e ∷ []) ≡ put (f e) (map f xs)
 put-missing f e [] none = refl
 put-missing f e (x ∷ xs) none = at (is_named (f e).name (f x)) refl none (put-missing f e xs)
   where
     at : (b : Bool) → is_named (f e).name (f x) ≡ b → suc (length xs) ≤ cond (not b) (1 + position_or_len (λ y. is_named (f e).name (f y)) xs) 0
-        → (length xs ≤ position_or_len (λ y. is_named (f e).name (f y)) xs → map f (xs ++ e ∷ []) ≡ put (f e) (map f xs)) → map f (x ∷ xs ++ e ∷ []) ≡ put (f e) (map f (x ∷ xs))
+        → (length xs ≤ position_or_len (λ y. is_named (f e).name (f y)) xs → map f (xs ++ e ∷ []) ≡ put (f e) (map f xs))
+        → map f (x ∷ xs ++ e ∷ []) ≡ put (f e) (map f (x ∷ xs))
     at true is far rest = absurd (omega arith)
     at false is far rest = rw is (ap (λ others. f x ∷ others) (rest (omega arith)))
 

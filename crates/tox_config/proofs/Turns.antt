@@ -1,5 +1,6 @@
 -- One turn of the loop over the values.
-use Rattle.std.proofs.Common.{◌≡◌, ℕ, ◌+◌, ◌<◌, ◌≤◌, Bool, true, false, List, [], ◌∷◌, ◌++◌, Some, None, Result, Ok, Err, get_or, length, drop, cond, leb, arith, refl, sym, ap, ◌∙◌, append_assoc, append-nil, length-append}
+use Rattle.std.proofs.Common.{◌≡◌, ℕ, ◌+◌, ◌<◌, ◌≤◌, Bool, true, false, List, [], ◌∷◌, ◌++◌, Some, None, Result, Ok, Err, get_or, length, drop, cond, leb}
+use Rattle.std.proofs.Common.{arith, refl, sym, ap, ◌∙◌, append_assoc, append-nil, length-append}
 use Rattle.std.proofs.lemmas.Bool.Decides.{nat_tests}
 use Rattle.std.proofs.lemmas.List.{at_drop_more}
 use Rattle.serde_json.specs.View.{items_view, view}
@@ -44,7 +45,8 @@ entries_from-done (item d ds) done place long few = at (proxy_of place d) (λ p.
     at : (read : Result Proxy ConfigFault)
         → ((p : Proxy) → length (done ++ p ∷ []) ≡ place + 1 → length (entries_of (done ++ p ∷ [])) ≤ most_names
         → entries_from (place + 1) ds (entries_of (done ++ p ∷ [])) ≡ populated (onto (done ++ p ∷ []) (front_of (place + 1) ds)))
-        → (read >>= (λ p. within place (put p (entries_of done)) >>= entries_from (place + 1) ds)) ≡ populated (onto done (with_first read (front_of (place + 1) ds)))
+        → (read >>= (λ p. within place (put p (entries_of done)) >>= entries_from (place + 1) ds))
+        ≡ populated (onto done (with_first read (front_of (place + 1) ds)))
     at (Ok p) rest =
         with_one_more place done p ds long few (rest p)
         ∙ ap (λ proxies. populated (record (front_of (place + 1) ds) { proxies = proxies })) (append_assoc done (p ∷ []) (front_of (place + 1) ds).proxies)
@@ -56,21 +58,25 @@ entries_from-start ds = entries_from-done ds [] 0 refl (omega arith)
 
 -- what is left, from the value at a place on
 entries_from-turn : (values : List Value) (value : Value) (place : ℕ) (entries : List Proxy) → (place < length values) × (value ≡ get_or values place value)
-    → entries_from place (items_view (drop place values)) entries ≡ (proxy_of place (view value) >>= (λ p. within place (put p entries) >>= entries_from (place + 1) (items_view (drop (place + 1) values))))
+    → entries_from place (items_view (drop place values)) entries ≡ (proxy_of place (view value) >>=
+    (λ p. within place (put p entries) >>= entries_from (place + 1) (items_view (drop (place + 1) values))))
 entries_from-turn values value place entries here =
     at_drop_more (λ vs. entries_from place (items_view vs) entries) values place value here.0
     ∙ ap (λ v. proxy_of place (view v) >>= (λ p. within place (put p entries) >>= entries_from (place + 1) (items_view (drop (place + 1) values)))) (sym here.1)
 
 -- a value whose proxy is within the limit
-pub turn-ok : (values : List Value) (value : Value) (place : ℕ) (entries : List Proxy) (p : Proxy) → (place < length values) × (value ≡ get_or values place value) → proxy_of place (view value) ≡ Ok p
-    → length (put p entries) ≤ most_names → entries_from place (items_view (drop place values)) entries ≡ entries_from (place + 1) (items_view (drop (place + 1) values)) (put p entries)
+pub turn-ok : (values : List Value) (value : Value) (place : ℕ) (entries : List Proxy) (p : Proxy)
+    → (place < length values) × (value ≡ get_or values place value) → proxy_of place (view value) ≡ Ok p
+    → length (put p entries) ≤ most_names → entries_from place (items_view (drop place values)) entries
+    ≡ entries_from (place + 1) (items_view (drop (place + 1) values)) (put p entries)
 turn-ok values value place entries p here read few =
     let left = entries_from (place + 1) (items_view (drop (place + 1) values)) in
     let short : leb (length (put p entries)) most_names ≡ true = grind (arith, nat_tests) in
     entries_from-turn values value place entries here ∙ ap (λ r. r >>= (λ q. within place (put q entries) >>= left)) read ∙ rw short refl
 
 -- a value that gives no proxy
-pub turn-err : (values : List Value) (value : Value) (place : ℕ) (entries : List Proxy) (fault : ConfigFault) → (place < length values) × (value ≡ get_or values place value) → proxy_of place (view value) ≡ Err fault
+pub turn-err : (values : List Value) (value : Value) (place : ℕ) (entries : List Proxy) (fault : ConfigFault)
+    → (place < length values) × (value ≡ get_or values place value) → proxy_of place (view value) ≡ Err fault
     → entries_from place (items_view (drop place values)) entries ≡ Err fault
 turn-err values value place entries fault here read =
     let left = entries_from (place + 1) (items_view (drop (place + 1) values)) in

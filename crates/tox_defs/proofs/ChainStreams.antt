@@ -20,7 +20,8 @@ applied_by : (met : Bool) (place : ℕ) (entry : Entry) (others : List Placed) �
 applied_by true place entry others fits rest = All-cons (λ placed. IsInRange placed.toxic) (record { place = place; toxic = entry.toxic }) others fits rest
 applied_by false place entry others fits rest = rest
 
-in_range-applied_from : (place : ℕ) (entries : List Entry) (draws : Draws) → All IsEntry entries → All (λ placed. IsInRange placed.toxic) (applied_from place entries draws)
+in_range-applied_from : (place : ℕ) (entries : List Entry) (draws : Draws) → All IsEntry entries
+    → All (λ placed. IsInRange placed.toxic) (applied_from place entries draws)
 in_range-applied_from place [] draws fits = All-nil (λ placed. IsInRange placed.toxic)
 in_range-applied_from place (entry ∷ entries) draws fits =
     let first : IsEntry entry = All-head IsEntry entry entries fits in
@@ -41,7 +42,8 @@ pub kept_by_toxics : (toxics : List Placed) (draws : Draws) (items : List Item) 
 kept_by_toxics [] draws items fit stream = record { stream = stream; bytes = omega arith }
 kept_by_toxics (placed ∷ toxics) draws items fit stream =
     let first = toxic_keeps placed.toxic (All-head (λ placed. IsInRange placed.toxic) placed toxics fit) (draws placed.place) items stream in
-    let others = kept_by_toxics toxics draws (toxic_flow placed.toxic (draws placed.place) items) (All-tail (λ placed. IsInRange placed.toxic) placed toxics fit) first.stream in
+    let others = kept_by_toxics toxics draws (toxic_flow placed.toxic (draws placed.place) items)
+    (All-tail (λ placed. IsInRange placed.toxic) placed toxics fit) first.stream in
     record { stream = others.stream; bytes = omega (arith, first.bytes, others.bytes) }
 
 pub kept_by_chain : (chain : Toxics) (words : List ℕ) (items : List Item) → IsChain chain → IsStream items → IsKeptBy items (chain_flow chain words items)

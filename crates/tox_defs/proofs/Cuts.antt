@@ -1,5 +1,6 @@
 -- A text is cut at the first byte that its front lacks.
-use Rattle.std.proofs.Common.{◌≡◌, ℕ, ◌+◌, ◌<◌, Bool, true, false, not, ◌==◌, List, [], ◌∷◌, ◌++◌, length, is_some, refl, ap, ◌∙◌, arith, rules, tests, take, drop, length-append}
+use Rattle.std.proofs.Common.{◌≡◌, ℕ, ◌+◌, ◌<◌, Bool, true, false, not, ◌==◌, List, [], ◌∷◌, ◌++◌, length, is_some, refl, ap, ◌∙◌, arith, rules, tests, take}
+use Rattle.std.proofs.Common.{drop, length-append}
 use Rattle.std.specs.List.{after_first, before_first, join_with_byte, list_all, position, position_or_len, slice_split, All}
 use Rattle.std.proofs.lemmas.Bool.{and_parts, not-true}
 use Rattle.std.proofs.Math.Seq.{take-append_seam, drop-append-add}

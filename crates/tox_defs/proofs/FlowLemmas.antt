@@ -8,7 +8,8 @@ use Rattle.tox_defs.specs.operations.Look.{Continues}
 
 -- states that count the same are the same
 pub state_same : (previous chunks chunks' pieces pieces' passed passed' : ℕ) (done : Bool) → chunks ≡ chunks' → pieces ≡ pieces' → passed ≡ passed'
-    → ◌≡◌ {A = State} (record { previous = previous; chunks = chunks; pieces = pieces; passed = passed; done = done }) (record { previous = previous; chunks = chunks'; pieces = pieces'; passed = passed'; done = done })
+    → ◌≡◌ {A = State} (record { previous = previous; chunks = chunks; pieces = pieces; passed = passed; done = done })
+    (record { previous = previous; chunks = chunks'; pieces = pieces'; passed = passed'; done = done })
 state_same previous chunks chunks' pieces pieces' passed passed' done same_chunks same_pieces same_passed =
     let make : ℕ → ℕ → ℕ → State = λ k n b. record { previous = previous; chunks = k; pieces = n; passed = b; done = done } in
     ap (λ k. make k pieces passed) same_chunks ∙ ap (λ n. make chunks' n passed) same_pieces ∙ ap (make chunks' pieces') same_passed
@@ -33,22 +34,26 @@ state_from-done reaction state [] done = refl
 state_from-done reaction state (item ∷ items) done =
     ap (λ answer. state_from reaction answer.state items) (react-done reaction state item done) ∙ state_from-done reaction state items done
 
-pub flow_from-append : (reaction : Reaction) (state : State) (xs ys : List Item) → flow_from reaction state (xs ++ ys) ≡ flow_from reaction state xs ++ flow_from reaction (state_from reaction state xs) ys
+pub flow_from-append : (reaction : Reaction) (state : State) (xs ys : List Item)
+    → flow_from reaction state (xs ++ ys) ≡ flow_from reaction state xs ++ flow_from reaction (state_from reaction state xs) ys
 flow_from-append reaction state [] ys = refl
 flow_from-append reaction state (x ∷ xs) ys =
     ap (λ later. (react reaction state x).given ++ later) (flow_from-append reaction (react reaction state x).state xs ys)
     ∙ sym (append_assoc (react reaction state x).given _ _)
 
-pub state_from-append : (reaction : Reaction) (state : State) (xs ys : List Item) → state_from reaction state (xs ++ ys) ≡ state_from reaction (state_from reaction state xs) ys
+pub state_from-append : (reaction : Reaction) (state : State) (xs ys : List Item)
+    → state_from reaction state (xs ++ ys) ≡ state_from reaction (state_from reaction state xs) ys
 state_from-append reaction state [] ys = refl
 state_from-append reaction state (x ∷ xs) ys = state_from-append reaction (react reaction state x).state xs ys
 
-pub flow_through-append : (first others : List Reaction) (items : List Item) → flow_through (first ++ others) items ≡ flow_through others (flow_through first items)
+pub flow_through-append : (first others : List Reaction) (items : List Item)
+    → flow_through (first ++ others) items ≡ flow_through others (flow_through first items)
 flow_through-append [] others items = refl
 flow_through-append (reaction ∷ first) others items = flow_through-append first others (flow reaction items)
 
 -- what is given for the last item
-pub flow_from-last : (reaction : Reaction) (state : State) (item : Item) (items : List Item) → items ≡ [] → flow_from reaction state (item ∷ items) ≡ (react reaction state item).given
+pub flow_from-last : (reaction : Reaction) (state : State) (item : Item) (items : List Item) → items ≡ []
+    → flow_from reaction state (item ∷ items) ≡ (react reaction state item).given
 flow_from-last reaction state item items none =
     ap (λ items. flow_from reaction state (item ∷ items)) none ∙ append-nil (react reaction state item).given
 
@@ -60,5 +65,6 @@ Continues-counted giving state item items given running is = record {
   leaves = ap (λ answer. state_from (counted giving) answer.state items) (answers running is);
 }
   where
-    answers : state.done ≡ false → giving state item ≡ given → react (counted giving) state item ≡ record { state = state_after state item given; given = given }
+    answers : state.done ≡ false → giving state item ≡ given → react (counted giving) state item
+        ≡ record { state = state_after state item given; given = given }
     answers running is = react-running (counted giving) state item running ∙ ap (λ given. record { state = state_after state item given; given = given }) is

@@ -1,5 +1,6 @@
 -- The applied toxics, gathered entry by entry.
-use Rattle.std.proofs.Common.{◌≡◌, ℕ, ◌+◌, ◌<◌, ◌≤◌, true, false, List, [], ◌∷◌, ◌++◌, length, drop, get_or, drop-cons, add-one, length-append, arith, refl, ap, sym, subst, ◌∙◌, if◌then◌else◌}
+use Rattle.std.proofs.Common.{◌≡◌, ℕ, ◌+◌, ◌<◌, ◌≤◌, true, false, List, [], ◌∷◌, ◌++◌, length, drop, get_or, drop-cons, add-one, length-append, arith, refl, ap}
+use Rattle.std.proofs.Common.{sym, subst, ◌∙◌, if◌then◌else◌}
 use Rattle.std.specs.Prelude.{All}
 use Rattle.std.proofs.lemmas.List.{append-nil, append_assoc, drop_all}
 use Rattle.std.proofs.lemmas.List.Elements.{All-nil, All-push}
@@ -35,7 +36,8 @@ from_place place entries entry d draws here is =
 -- one more toxic that is met
 pub gathers-met : (chain : Toxics) (words : List ℕ) (place : ℕ) (met : List Placed) (entries : List Entry) (entry d : Entry) → IsChain chain
     → entries ≡ chain.entries → place < length entries → entry ≡ get_or entries place d
-    → is_applied entry place (chain_draws chain words) ≡ true → Gathers chain words place met → Gathers chain words (place + 1) (met ++ at_place place entry ∷ [])
+    → is_applied entry place (chain_draws chain words) ≡ true → Gathers chain words place met
+    → Gathers chain words (place + 1) (met ++ at_place place entry ∷ [])
 gathers-met chain words place met entries entry d fits same here is applies so_far =
     let later = applied_from (place + 1) (drop (place + 1) chain.entries) (chain_draws chain words) in
     let within : place < length chain.entries = subst (λ entries. place < length entries) same here in
@@ -43,7 +45,8 @@ gathers-met chain words place met entries entry d fits same here is applies so_f
     let in_range : IsEntry entry = subst IsEntry (sym at) (fits.entries_fit place d within) in
     record {
       all = append_assoc met (at_place place entry ∷ []) later
-          ∙ sym (ap (λ others. met ++ others) (from_place place chain.entries entry d (chain_draws chain words) within at ∙ ap (λ applied. if applied then at_place place entry ∷ later else later) applies))
+          ∙ sym (ap (λ others. met ++ others) (from_place place chain.entries entry d (chain_draws chain words) within at
+          ∙ ap (λ applied. if applied then at_place place entry ∷ later else later) applies))
           ∙ so_far.all;
       few = omega (arith, so_far.few, length-append met (at_place place entry ∷ []));
       placed = All-push (IsPlaced chain.lanes) met (at_place place entry) so_far.placed (in_range.0, omega (arith, within, fits.most));
@@ -58,12 +61,14 @@ gathers-skipped chain words place met entries entry d same here is skipped so_fa
     let within : place < length chain.entries = subst (λ entries. place < length entries) same here in
     let at : entry ≡ get_or chain.entries place d = is ∙ ap (λ entries. get_or entries place d) same in
     record {
-      all = sym (ap (λ others. met ++ others) (from_place place chain.entries entry d (chain_draws chain words) within at ∙ ap (λ applied. if applied then at_place place entry ∷ later else later) skipped)) ∙ so_far.all;
+      all = sym (ap (λ others. met ++ others) (from_place place chain.entries entry d (chain_draws chain words) within at
+          ∙ ap (λ applied. if applied then at_place place entry ∷ later else later) skipped)) ∙ so_far.all;
       few = omega (arith, so_far.few);
       placed = so_far.placed;
     }
 
 -- behind the last entry
-pub gathered : (chain : Toxics) (words : List ℕ) (place : ℕ) (met : List Placed) → length chain.entries ≤ place → Gathers chain words place met → met ≡ applied chain words
+pub gathered : (chain : Toxics) (words : List ℕ) (place : ℕ) (met : List Placed) → length chain.entries ≤ place → Gathers chain words place met
+    → met ≡ applied chain words
 gathered chain words place met past so_far =
     sym (append-nil met) ∙ sym (ap (λ entries. met ++ applied_from place entries (chain_draws chain words)) (drop_all place chain.entries past)) ∙ so_far.all

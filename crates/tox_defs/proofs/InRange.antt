@@ -7,7 +7,8 @@ use Rattle.tox_defs.specs.declared.fault.ToxicFault.TheVariants.{OutOfRange, Var
 use Rattle.tox_defs.specs.toxics.Ranges.{is_in}
 
 -- what it says of the two tests that there is no fault
-pub both_tests : (within varied_much : Bool) → (if within then (if varied_much then Some Variation else None) else Some OutOfRange) ≡ None → (within ≡ true) × (varied_much ≡ false)
+pub both_tests : (within varied_much : Bool) → (if within then (if varied_much then Some Variation else None) else Some OutOfRange) ≡ None
+    → (within ≡ true) × (varied_much ≡ false)
 both_tests false varied_much none = absurd (cc)
 both_tests true true none = absurd (cc)
 both_tests true false none = (refl, refl)

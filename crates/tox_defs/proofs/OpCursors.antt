@@ -23,27 +23,32 @@ pub rest_of-read : (start stop instant : ℕ) → stop ≤ start → rest_of sta
 rest_of-read start stop instant read = rw (le-ltb start stop read)
 
 -- what is left of a chunk
-pub rest_of-unread : (start stop instant : ℕ) → start < stop → rest_of start stop instant ≡ as_chunk (record { span = record { start = start; stop = stop }; instant = instant }) ∷ []
+pub rest_of-unread : (start stop instant : ℕ) → start < stop → rest_of start stop instant
+    ≡ as_chunk (record { span = record { start = start; stop = stop }; instant = instant }) ∷ []
 rest_of-unread start stop instant unread = rw (lt-ltb start stop unread)
 
 pub cursor_gives-running : (draws : Draws) (start : ℕ) (cursor : OpCursor) (items : List Item) → cursor.ending ≡ None
     → cursor_gives draws start cursor items ≡ flow_from (op_reaction cursor.op draws) cursor.state (rest_of start cursor.stop cursor.instant ++ items)
-cursor_gives-running draws start cursor items running = ap (λ ending. ending_or ending (flow_from (op_reaction cursor.op draws) cursor.state (rest_of start cursor.stop cursor.instant ++ items))) running
+cursor_gives-running draws start cursor items running = ap (λ ending. ending_or ending
+    (flow_from (op_reaction cursor.op draws) cursor.state (rest_of start cursor.stop cursor.instant ++ items))) running
 
 pub cursor_gives-ended : (draws : Draws) (start : ℕ) (cursor : OpCursor) (ending : Ending) (items : List Item) → cursor.ending ≡ Some ending
     → cursor_gives draws start cursor items ≡ final_of ending ∷ []
-cursor_gives-ended draws start cursor ending items ended = ap (λ ending. ending_or ending (flow_from (op_reaction cursor.op draws) cursor.state (rest_of start cursor.stop cursor.instant ++ items))) ended
+cursor_gives-ended draws start cursor ending items ended = ap (λ ending.
+    ending_or ending (flow_from (op_reaction cursor.op draws) cursor.state (rest_of start cursor.stop cursor.instant ++ items))) ended
 
 pub cursor_leaves-running : (draws : Draws) (start : ℕ) (cursor : OpCursor) → cursor.ending ≡ None
     → cursor_leaves draws start cursor ≡ state_from (op_reaction cursor.op draws) cursor.state (rest_of start cursor.stop cursor.instant)
-cursor_leaves-running draws start cursor running = ap (λ ending. ended_or ending cursor.state (state_from (op_reaction cursor.op draws) cursor.state (rest_of start cursor.stop cursor.instant))) running
+cursor_leaves-running draws start cursor running = ap (λ ending. ended_or ending cursor.state
+    (state_from (op_reaction cursor.op draws) cursor.state (rest_of start cursor.stop cursor.instant))) running
 
 -- the unread bytes of a cursor's present chunk
 abbrev pub rest_at : ℕ → OpCursor → Slice
 rest_at start cursor = record { span = record { start = start; stop = cursor.stop }; instant = cursor.instant }
 
 module _ (draws : Draws) (start : ℕ) (cursor : OpCursor) (running : cursor.ending ≡ None) (some : start < cursor.stop) where
-  gives_now : (items : List Item) → cursor_gives draws start cursor items ≡ flow_from (op_reaction cursor.op draws) cursor.state (as_chunk (rest_at start cursor) ∷ items)
+  gives_now : (items : List Item) → cursor_gives draws start cursor items
+      ≡ flow_from (op_reaction cursor.op draws) cursor.state (as_chunk (rest_at start cursor) ∷ items)
   gives_now items = cursor_gives-running draws start cursor items running
       ∙ ap (λ rest. flow_from (op_reaction cursor.op draws) cursor.state (rest ++ items)) (rest_of-unread start cursor.stop cursor.instant some)
 
@@ -52,15 +57,18 @@ module _ (draws : Draws) (start : ℕ) (cursor : OpCursor) (running : cursor.end
       ∙ ap (λ rest. state_from (op_reaction cursor.op draws) cursor.state rest) (rest_of-unread start cursor.stop cursor.instant some)
 
 -- what a piece counts
-counted_piece : (ends : Bool) (state : State) (piece : Slice) (start : ℕ) → state.chunks ≤ start → start < piece.span.stop → (if ends then with_chunk (with_piece state piece) else with_piece state piece).chunks ≤ piece.span.stop
+counted_piece : (ends : Bool) (state : State) (piece : Slice) (start : ℕ) → state.chunks ≤ start → start < piece.span.stop
+    → (if ends then with_chunk (with_piece state piece) else with_piece state piece).chunks ≤ piece.span.stop
 counted_piece true state piece start counts some = omega (arith, counts, some)
 counted_piece false state piece start counts some = omega (arith, counts, some)
 
-same_pieces : (ends : Bool) (state : State) (piece : Slice) → (if ends then with_chunk (with_piece state piece) else with_piece state piece).pieces ≡ state.pieces + 1
+same_pieces : (ends : Bool) (state : State) (piece : Slice) → (if ends then with_chunk (with_piece state piece) else with_piece state piece).pieces
+    ≡ state.pieces + 1
 same_pieces true state piece = refl
 same_pieces false state piece = refl
 
-same_passed : (ends : Bool) (state : State) (piece : Slice) → (if ends then with_chunk (with_piece state piece) else with_piece state piece).passed ≡ state.passed + (piece.span.stop - piece.span.start)
+same_passed : (ends : Bool) (state : State) (piece : Slice) → (if ends then with_chunk (with_piece state piece) else with_piece state piece).passed
+    ≡ state.passed + (piece.span.stop - piece.span.start)
 same_passed true state piece = refl
 same_passed false state piece = refl
 
@@ -71,11 +79,24 @@ same_done false state piece = refl
 -- a cursor whose look found a piece
 pub cursor_at_piece : (draws : Draws) (start : ℕ) (cursor : OpCursor) (piece : Slice) → cursor.ending ≡ None → start < cursor.stop → IsSoundCursor start cursor
     → ((items : List Item) → Finds (op_reaction cursor.op draws) cursor.state (rest_at start cursor) items (Piece piece)) → IsFront (rest_at start cursor) piece
-    → IsNextPiece draws start cursor (record { op = cursor.op; state = after_piece_of cursor.stop cursor.state piece; stop = cursor.stop; instant = cursor.instant; ending = cursor.ending }) piece
+    → IsNextPiece draws start cursor (record {
+      op = cursor.op;
+      state = after_piece_of cursor.stop cursor.state piece;
+      stop = cursor.stop;
+      instant =
+          cursor.instant;
+      ending = cursor.ending;
+    }) piece
 cursor_at_piece draws start cursor piece running some sound finds front =
     let ends : Bool = piece.span.stop == cursor.stop in
     let past : start < piece.span.stop = omega (arith, front.begins, front.some) in
-    let later : OpCursor = record { op = cursor.op; state = after_piece_of cursor.stop cursor.state piece; stop = cursor.stop; instant = cursor.instant; ending = cursor.ending } in
+    let later : OpCursor = record {
+      op = cursor.op;
+      state = after_piece_of cursor.stop cursor.state piece;
+      stop = cursor.stop;
+      instant = cursor.instant;
+      ending = cursor.ending;
+    } in
     record {
       begins = front.begins;
       some = past;
@@ -95,18 +116,34 @@ cursor_at_piece draws start cursor piece running some sound finds front =
       gives = λ items. gives_now draws start cursor running some items ∙ (finds items).gives
           ∙ ap (λ given. as_chunk piece ∷ given) (sym (cursor_gives-running draws piece.span.stop later items running));
       leaves = leaves_now draws start cursor running some ∙ (finds []).leaves
-          ∙ ap (λ rest. state_from (op_reaction cursor.op draws) (after_piece_of cursor.stop cursor.state piece) rest) (append-nil (rest_of piece.span.stop cursor.stop cursor.instant))
+          ∙ ap (λ rest. state_from (op_reaction cursor.op draws) (after_piece_of cursor.stop cursor.state piece) rest)
+          (append-nil (rest_of piece.span.stop cursor.stop cursor.instant))
           ∙ sym (cursor_leaves-running draws piece.span.stop later running);
     }
 
 -- a cursor whose look found that the rest is late
-pub cursor_at_uncounted : (draws : Draws) (start : ℕ) (cursor : OpCursor) (piece : Slice) → cursor.ending ≡ None → start < cursor.stop → IsSoundCursor start cursor
-    → ((items : List Item) → Finds (op_reaction cursor.op draws) cursor.state (rest_at start cursor) items (Uncounted piece)) → piece.span ≡ (rest_at start cursor).span
-    → IsNextPiece draws start cursor (record { op = cursor.op; state = with_previous cursor.state piece.instant; stop = cursor.stop; instant = cursor.instant; ending = cursor.ending }) piece
+pub cursor_at_uncounted : (draws : Draws) (start : ℕ) (cursor : OpCursor) (piece : Slice) → cursor.ending ≡ None → start < cursor.stop
+    → IsSoundCursor start cursor
+    → ((items : List Item) → Finds (op_reaction cursor.op draws) cursor.state (rest_at start cursor) items (Uncounted piece))
+    → piece.span ≡ (rest_at start cursor).span
+    → IsNextPiece draws start cursor (record {
+      op = cursor.op;
+      state = with_previous cursor.state piece.instant;
+      stop = cursor.stop;
+      instant = cursor.instant;
+      ending = cursor.ending;
+    }) piece
 cursor_at_uncounted draws start cursor piece running some sound finds whole =
     let begins : piece.span.start ≡ start = ap (λ span. span.start) whole in
     let stops : piece.span.stop ≡ cursor.stop = ap (λ span. span.stop) whole in
-    let later : OpCursor = record { op = cursor.op; state = with_previous cursor.state piece.instant; stop = cursor.stop; instant = cursor.instant; ending = cursor.ending } in
+    let later : OpCursor = record {
+      op = cursor.op;
+      state = with_previous cursor.state piece.instant;
+      stop = cursor.stop;
+      instant = cursor.instant;
+      ending =
+          cursor.ending;
+    } in
     let nothing = rest_of-read piece.span.stop cursor.stop cursor.instant (omega (arith, stops)) in
     record {
       begins = begins;
@@ -133,9 +170,17 @@ cursor_at_uncounted draws start cursor piece running some sound finds whole =
     }
 
 -- a cursor whose look found its last piece
-pub cursor_at_last_piece : (draws : Draws) (start : ℕ) (cursor : OpCursor) (piece : Slice) (ending : Ending) → cursor.ending ≡ None → start < cursor.stop → IsSoundCursor start cursor
-    → ((items : List Item) → Finds (op_reaction cursor.op draws) cursor.state (rest_at start cursor) items (LastPiece piece ending)) → IsFront (rest_at start cursor) piece
-    → IsNextPiece draws start cursor (record { op = cursor.op; state = with_ending (with_chunk (with_piece cursor.state piece)) ending; stop = cursor.stop; instant = cursor.instant; ending = Some ending }) piece
+pub cursor_at_last_piece : (draws : Draws) (start : ℕ) (cursor : OpCursor) (piece : Slice) (ending : Ending) → cursor.ending ≡ None → start < cursor.stop
+    → IsSoundCursor start cursor
+    → ((items : List Item) → Finds (op_reaction cursor.op draws) cursor.state (rest_at start cursor) items (LastPiece piece ending))
+    → IsFront (rest_at start cursor) piece
+    → IsNextPiece draws start cursor (record {
+      op = cursor.op;
+      state = with_ending (with_chunk (with_piece cursor.state piece)) ending;
+      stop = cursor.stop;
+      instant = cursor.instant;
+      ending = Some ending;
+    }) piece
 cursor_at_last_piece draws start cursor piece ending running some sound finds front =
     let past : start < piece.span.stop = omega (arith, front.begins, front.some) in
     let done : State = with_ending (with_chunk (with_piece cursor.state piece)) ending in
@@ -163,7 +208,14 @@ cursor_at_last_piece draws start cursor piece ending running some sound finds fr
 -- a cursor whose look found its ending
 pub cursor_at_end : (draws : Draws) (start : ℕ) (cursor : OpCursor) (ending : Ending) → cursor.ending ≡ None → start < cursor.stop
     → ((items : List Item) → Finds (op_reaction cursor.op draws) cursor.state (rest_at start cursor) items (Ended ending))
-    → GivesOnlyEnding draws start cursor (record { op = cursor.op; state = with_ending (with_chunk cursor.state) ending; stop = cursor.stop; instant = cursor.instant; ending = Some ending }) ending
+    → GivesOnlyEnding draws start cursor (record {
+      op = cursor.op;
+      state = with_ending (with_chunk cursor.state) ending;
+      stop = cursor.stop;
+      instant =
+          cursor.instant;
+      ending = Some ending;
+    }) ending
 cursor_at_end draws start cursor ending running some finds =
     let done : State = with_ending (with_chunk cursor.state) ending in
     record {

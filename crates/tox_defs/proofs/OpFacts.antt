@@ -14,7 +14,8 @@ use Rattle.tox_defs.proofs.Finals.{ending-final_of}
 -- it gives a stream for a stream, and one final for a final, for which it draws no word
 pub record OpFacts (op : Op) : Type 0 where
   pub streams : (draws : Draws) (items : List Item) → IsOp op → IsStream items → IsStream (flow (op_reaction op draws) items)
-  pub final : (draws : Draws) (state : State) (end : Ending) → op_giving op draws state (final_of end) ≡ final_of (ending (op_giving op (λ _ _. 0) state (final_of end))) ∷ []
+  pub final : (draws : Draws) (state : State) (end : Ending) → op_giving op draws state (final_of end)
+      ≡ final_of (ending (op_giving op (λ _ _. 0) state (final_of end))) ∷ []
 
 -- one final is the final of its ending
 pub one_final : (given : List Item) (end : Ending) → given ≡ final_of end ∷ [] → given ≡ final_of (ending given) ∷ []

@@ -14,5 +14,6 @@ use Rattle.tox_defs.proofs.ToxicProofs.{op_facts}
 pub IsStream-op_flow : (op : Op) (draws : Draws) (items : List Item) → IsOp op → IsStream items → IsStream (flow (op_reaction op draws) items)
 IsStream-op_flow op = (op_facts op).streams
 
-pub gives-final : (op : Op) (draws : Draws) (state : State) (end : Ending) → op_giving op draws state (final_of end) ≡ final_of (ending (op_giving op (λ _ _. 0) state (final_of end))) ∷ []
+pub gives-final : (op : Op) (draws : Draws) (state : State) (end : Ending)
+    → op_giving op draws state (final_of end) ≡ final_of (ending (op_giving op (λ _ _. 0) state (final_of end))) ∷ []
 gives-final op = (op_facts op).final

@@ -18,7 +18,8 @@ pub AllFit-stream : (position since : ℕ) (items : List Item) → IsStreamFrom 
     → AllFit (record { position = position; latest = since; ended = false }) items
 AllFit-stream position since [] stream few = absurd stream
 AllFit-stream position since (Chunk span t ∷ items) stream few =
-    let here : fits (record { position = position; latest = since; ended = false }) (Chunk span t) ≡ true = grind (arith, nat_tests, stream.0, stream.1, stream.2) in
+    let here : fits (record { position = position; latest = since; ended = false }) (Chunk span t) ≡ true =
+    grind (arith, nat_tests, stream.0, stream.1, stream.2) in
     (here, AllFit-stream span.stop t items stream.4 (omega (arith, stream.0, stream.1, few)))
 AllFit-stream position since (Closed t ∷ items) stream few =
     let here : fits (record { position = position; latest = since; ended = false }) (Closed t) ≡ true = grind (arith, nat_tests, stream.0) in
@@ -31,7 +32,8 @@ AllFit-stream position since (Quiet ∷ items) stream few = (refl, AllFit-none p
 -- a chunk that goes on with a stream starts where that stopped, and isn't empty
 pub chunk_fits : (place : StreamPosition) (span : Span) (t : ℕ) → fits place (Chunk span t) ≡ true → (span.start ≡ place.position) × (span.start < span.stop)
 chunk_fits place span t follows =
-    let goes_on = and_parts (not place.ended) (nat_le place.latest t && (span.start == place.position) && nat_lt span.start span.stop && nat_le span.stop (2 ^ 40)) follows in
+    let goes_on = and_parts (not place.ended) (nat_le place.latest t && (span.start == place.position) && nat_lt span.start span.stop && nat_le span.stop
+    (2 ^ 40)) follows in
     let bounded = and_parts (nat_le place.latest t && (span.start == place.position) && nat_lt span.start span.stop) (nat_le span.stop (2 ^ 40)) goes_on.1 in
     let nonempty = and_parts (nat_le place.latest t && (span.start == place.position)) (nat_lt span.start span.stop) bounded.0 in
     let starts = and_parts (nat_le place.latest t) (span.start == place.position) nonempty.0 in

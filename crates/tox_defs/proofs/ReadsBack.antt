@@ -1,5 +1,7 @@
 -- The printed short form of a toxic in range reads back as that toxic.
-use Rattle.std.proofs.Common.{◌≡◌, ℕ, ◌^◌, ◌<◌, ◌≤◌, ◌==◌, ◌+◌, Bool, true, false, cond, not, nat_lt, filter, List, [], ◌∷◌, ◌++◌, length, codes, count_by, decimal, length-append, map, Option, Some, None, Ok, unwrap_or, refl, ap, subst, sym, ◌∙◌, append_assoc, arith, rules, tests, if◌then◌else◌}
+use Rattle.std.proofs.Common.{◌≡◌, ℕ, ◌^◌, ◌<◌, ◌≤◌, ◌==◌, ◌+◌, Bool, true, false, cond, not, nat_lt, filter, List, [], ◌∷◌, ◌++◌, length, codes, count_by}
+use Rattle.std.proofs.Common.{decimal, length-append, map, Option, Some, None, Ok, unwrap_or, refl, ap, subst, sym, ◌∙◌, append_assoc, arith, rules, tests}
+use Rattle.std.proofs.Common.{if◌then◌else◌}
 use Rattle.std.specs.Prelude.{◌&&◌, ◌||◌, option_and_then}
 use Rattle.std.specs.List.{after_first, find, join_with_byte, list_all, list_any}
 use Rattle.std.specs.Str.{bytes_eq}
@@ -22,7 +24,8 @@ use Rattle.tox_defs.proofs.ToxicProofs.{toxic_facts}
 -- Words
 
 -- a word lacks a byte that no word has
-lacks_word : (test : ℕ → Bool) (text : List ℕ) → ((byte : ℕ) → is_word_byte byte ≡ true → not (test byte) ≡ true) → list_all is_word_byte text ≡ true → lacks test text ≡ true
+lacks_word : (test : ℕ → Bool) (text : List ℕ) → ((byte : ℕ) → is_word_byte byte ≡ true → not (test byte) ≡ true) → list_all is_word_byte text ≡ true
+    → lacks test text ≡ true
 lacks_word test [] apart word = refl
 lacks_word test (byte ∷ text) apart word =
     let parts = and_parts (is_word_byte byte) (list_all is_word_byte text) word in
@@ -103,7 +106,8 @@ value_by key entry entries false here later = later
 value_at-printed : (key : List ℕ) (entries : List Named) → AreGood entries → value_at key (map printed_pair entries) ≡ named_value key entries
 value_at-printed key [] good = refl
 value_at-printed key (entry ∷ entries) good =
-    ap (λ name. option_and_then value_of (if bytes_eq name key then Some (printed_pair entry) else find (has_key key) (map printed_pair entries))) (key_of-printed entry good.0)
+    ap (λ name. option_and_then value_of (if bytes_eq name key then Some (printed_pair entry) else find (has_key key) (map printed_pair entries)))
+    (key_of-printed entry good.0)
     ∙ value_by key entry entries (bytes_eq entry.0 key) (value_of-printed entry good.0 good.1) (value_at-printed key entries good.2)
 
 -- No key twice
@@ -129,7 +133,8 @@ count_none key (entry ∷ entries) good none =
     let parts = lacking key entry entries none in
     counted_by key entry entries good.0 ∙ rw parts.1 (omega (arith, count_none key entries good.2 parts.2))
 
-count_one_by : (key : List ℕ) (entry : Named) (entries : List Named) (same : Bool) → bytes_eq entry.0 key ≡ same → AreGood entries → has_name entry.0 entries ≡ false
+count_one_by : (key : List ℕ) (entry : Named) (entries : List Named) (same : Bool) → bytes_eq entry.0 key ≡ same → AreGood entries
+    → has_name entry.0 entries ≡ false
     → count_by (has_key key) (map printed_pair entries) ≤ 1
     → (if same then 1 else 0) + count_by (has_key key) (map printed_pair entries) ≤ 1
 count_one_by key entry entries true is good none few =
@@ -163,7 +168,8 @@ good_by : (shown : Bool) (entry last : Named) (entries : List Named) → is_word
 good_by true entry last entries word small others = (word, small, others)
 good_by false entry last entries word small others = others
 
-good_shown : (entries : List Named) (last : Named) → list_all (λ entry. is_word entry.0) entries ≡ true → AreShort entries → is_word last.0 ≡ true → last.1 < 10 ^ 18
+good_shown : (entries : List Named) (last : Named) → list_all (λ entry. is_word entry.0) entries ≡ true → AreShort entries → is_word last.0 ≡ true
+    → last.1 < 10 ^ 18
     → AreGood (shown_before entries last)
 good_shown [] last words small word few = (word, few, tt)
 good_shown (entry ∷ entries) last words small word few =
@@ -175,26 +181,30 @@ passes_by : (test : Named → Bool) (shown : Bool) (entry last : Named) (entries
 passes_by test true entry last entries here others = rw here others
 passes_by test false entry last entries here others = others
 
-pass_shown : (test : Named → Bool) (entries : List Named) (last : Named) → list_all test entries ≡ true → test last ≡ true → list_all test (shown_before entries last) ≡ true
+pass_shown : (test : Named → Bool) (entries : List Named) (last : Named) → list_all test entries ≡ true → test last ≡ true
+    → list_all test (shown_before entries last) ≡ true
 pass_shown test [] last pass here = rw here refl
 pass_shown test (entry ∷ entries) last pass here =
     let parts = and_parts (test entry) (list_all test entries) pass in
     passes_by test (is_shown entry) entry last (filter is_shown entries) parts.0 (pass_shown test entries last parts.1 here)
 
-lacking_by : (name : List ℕ) (shown : Bool) (entry last : Named) (entries : List Named) → has_name name (entry ∷ []) ≡ false → has_name name (entries ++ last ∷ []) ≡ false
+lacking_by : (name : List ℕ) (shown : Bool) (entry last : Named) (entries : List Named) → has_name name (entry ∷ []) ≡ false
+    → has_name name (entries ++ last ∷ []) ≡ false
     → has_name name ((if shown then entry ∷ entries else entries) ++ last ∷ []) ≡ false
 lacking_by name true entry last entries here others =
     let parts = lacking name entry [] here in rw (parts.0, parts.1) others
 lacking_by name false entry last entries here others = others
 
-lacking_shown : (name : List ℕ) (entries : List Named) (last : Named) → has_name name entries ≡ false → has_name name (last ∷ []) ≡ false → has_name name (shown_before entries last) ≡ false
+lacking_shown : (name : List ℕ) (entries : List Named) (last : Named) → has_name name entries ≡ false → has_name name (last ∷ []) ≡ false
+    → has_name name (shown_before entries last) ≡ false
 lacking_shown name [] last none here = here
 lacking_shown name (entry ∷ entries) last none here =
     let parts = lacking name entry entries none in
     let alone : has_name name (entry ∷ []) ≡ false = rw (parts.0, parts.1) refl in
     lacking_by name (is_shown entry) entry last (filter is_shown entries) alone (lacking_shown name entries last parts.2 here)
 
-apart_by : (shown : Bool) (entry last : Named) (entries : List Named) → has_name entry.0 (entries ++ last ∷ []) ≡ false → are_apart (entries ++ last ∷ []) ≡ true
+apart_by : (shown : Bool) (entry last : Named) (entries : List Named) → has_name entry.0 (entries ++ last ∷ []) ≡ false
+    → are_apart (entries ++ last ∷ []) ≡ true
     → are_apart ((if shown then entry ∷ entries else entries) ++ last ∷ []) ≡ true
 apart_by true entry last entries none others = rw none others
 apart_by false entry last entries none others = others
@@ -213,17 +223,20 @@ apart_shown (entry ∷ entries) last apart none =
 abbrev read_value : List Named → Named → ℕ
 read_value entries entry = unwrap_or (named_value entry.0 entries) 0
 
-skipped : (entry : Named) (given entries : List Named) → has_name entry.0 entries ≡ false → map (read_value (entry ∷ given)) entries ≡ map (read_value given) entries
+skipped : (entry : Named) (given entries : List Named) → has_name entry.0 entries ≡ false
+    → map (read_value (entry ∷ given)) entries ≡ map (read_value given) entries
 skipped entry given [] none = refl
 skipped entry given (other ∷ entries) none =
     let parts = lacking entry.0 other entries none in rw (parts.0, skipped entry given entries parts.2) refl
 
-absent_by : (name : List ℕ) (shown : Bool) (entry last : Named) (entries : List Named) → bytes_eq entry.0 name ≡ false → named_value name (entries ++ last ∷ []) ≡ named_value name (last ∷ [])
+absent_by : (name : List ℕ) (shown : Bool) (entry last : Named) (entries : List Named) → bytes_eq entry.0 name ≡ false
+    → named_value name (entries ++ last ∷ []) ≡ named_value name (last ∷ [])
     → named_value name ((if shown then entry ∷ entries else entries) ++ last ∷ []) ≡ named_value name (last ∷ [])
 absent_by name true entry last entries here others = rw here others
 absent_by name false entry last entries here others = others
 
-absent : (name : List ℕ) (entries : List Named) (last : Named) → has_name name entries ≡ false → named_value name (shown_before entries last) ≡ named_value name (last ∷ [])
+absent : (name : List ℕ) (entries : List Named) (last : Named) → has_name name entries ≡ false
+    → named_value name (shown_before entries last) ≡ named_value name (last ∷ [])
 absent name [] last none = refl
 absent name (entry ∷ entries) last none =
     let parts = lacking name entry entries none in
@@ -236,16 +249,19 @@ hidden entry none = grind (arith, nat_tests)
 same_name : (name : List ℕ) → bytes_eq name name ≡ true
 same_name name = search (rules, tests)
 
-read_by : (shown : Bool) (entry last : Named) (entries : List Named) → is_shown entry ≡ shown → has_name entry.0 entries ≡ false → bytes_eq last.0 entry.0 ≡ false
+read_by : (shown : Bool) (entry last : Named) (entries : List Named) → is_shown entry ≡ shown → has_name entry.0 entries ≡ false
+    → bytes_eq last.0 entry.0 ≡ false
     → named_value entry.0 (shown_before entries last) ≡ named_value entry.0 (last ∷ [])
     → map (read_value (shown_before entries last)) entries ≡ map (λ e. e.1) entries
-    → map (read_value ((if shown then entry ∷ filter is_shown entries else filter is_shown entries) ++ last ∷ [])) (entry ∷ entries) ≡ entry.1 ∷ map (λ e. e.1) entries
+    → map (read_value ((if shown then entry ∷ filter is_shown entries else filter is_shown entries) ++ last ∷ [])) (entry ∷ entries)
+    ≡ entry.1 ∷ map (λ e. e.1) entries
 read_by true entry last entries is alone other none others =
     rw (same_name entry.0, skipped entry (shown_before entries last) entries alone) (ap (λ values. entry.1 ∷ values) others)
 read_by false entry last entries is alone other none others =
     rw (none, other) (ap (λ value. value ∷ map (read_value (shown_before entries last)) entries) (hidden entry is) ∙ ap (λ values. entry.1 ∷ values) others)
 
-values_read : (entries : List Named) (last : Named) → are_apart entries ≡ true → has_name last.0 entries ≡ false → map (read_value (shown_before entries last)) entries ≡ map (λ e. e.1) entries
+values_read : (entries : List Named) (last : Named) → are_apart entries ≡ true → has_name last.0 entries ≡ false
+    → map (read_value (shown_before entries last)) entries ≡ map (λ e. e.1) entries
 values_read [] last apart none = refl
 values_read (entry ∷ entries) last apart none =
     let parts = and_parts (not (has_name entry.0 entries)) (are_apart entries) apart in
@@ -293,7 +309,8 @@ some_shown entries last = simp (length-map, length-append) (omega arith)
 
 -- the values of the attributes that the pairs give
 pair_values-shown : (toxic : Toxic) (spelled : IsSpelled toxic) (toxicity : ℕ) → AreGood (shown_before (entries_of toxic) (codes "toxicity", toxicity))
-    → pair_values (with_values toxic []) (map printed_pair (shown_before (entries_of toxic) (codes "toxicity", toxicity))) ≡ map (λ entry. entry.1) (entries_of toxic)
+    → pair_values (with_values toxic []) (map printed_pair (shown_before (entries_of toxic) (codes "toxicity", toxicity)))
+    ≡ map (λ entry. entry.1) (entries_of toxic)
 pair_values-shown toxic spelled toxicity good =
     let entries = entries_of toxic in
     let last : Named = (codes "toxicity", toxicity) in
@@ -303,7 +320,8 @@ pair_values-shown toxic spelled toxicity good =
     ∙ values_by (shown_before entries last) good entries
     ∙ values_read entries last parts.1 none
   where
-    values_by : (given : List Named) → AreGood given → (entries : List Named) → map (λ key. unwrap_or (value_at key (map printed_pair given)) 0) (map (λ entry. entry.0) entries) ≡ map (read_value given) entries
+    values_by : (given : List Named) → AreGood given → (entries : List Named)
+        → map (λ key. unwrap_or (value_at key (map printed_pair given)) 0) (map (λ entry. entry.0) entries) ≡ map (read_value given) entries
     values_by given good [] = refl
     values_by given good (entry ∷ entries) = rw (value_at-printed entry.0 given good, values_by given good entries) refl
 

@@ -35,40 +35,101 @@ state_after-final state (Reset u) (Reset t) = state_same _ _ _ _ _ _ _ _ (omega 
 
 -- a stage with nothing left to emit
 read_stage : (drawing : DrawingView) (start : ℕ) (cursor : OpCursor) (place : StreamPosition) → cursor.ending ≡ None → start ≡ cursor.stop
-    → ◌≡◌ {A = Staged} (record { op = cursor.op; drawing = drawing; state = cursor_leaves (draws_of drawing) start cursor; pending = cursor_gives (draws_of drawing) start cursor []; place = place }) (record { op = cursor.op; drawing = drawing; state = cursor.state; pending = []; place = place })
+    → ◌≡◌ {A = Staged} (record {
+      op = cursor.op;
+      drawing = drawing;
+      state = cursor_leaves (draws_of drawing) start cursor;
+      pending =
+          cursor_gives (draws_of drawing) start cursor [];
+      place = place;
+    })
+    (record { op = cursor.op; drawing = drawing; state = cursor.state; pending = []; place = place })
 read_stage drawing start cursor place running read =
     let nothing = rest_of-read start cursor.stop cursor.instant (omega (arith, read)) in
     let make : State → List Item → Staged = λ state pending. record { op = cursor.op; drawing = drawing; state = state; pending = pending; place = place } in
-    ap (λ state. make state (cursor_gives (draws_of drawing) start cursor [])) (cursor_leaves-running (draws_of drawing) start cursor running ∙ ap (λ rest. state_from (op_reaction cursor.op (draws_of drawing)) cursor.state rest) nothing)
-    ∙ ap (make cursor.state) (cursor_gives-running (draws_of drawing) start cursor [] running ∙ ap (λ rest. flow_from (op_reaction cursor.op (draws_of drawing)) cursor.state (rest ++ [])) nothing)
+    ap (λ state. make state (cursor_gives (draws_of drawing) start cursor []))
+    (cursor_leaves-running (draws_of drawing) start cursor running ∙ ap (λ rest. state_from (op_reaction cursor.op (draws_of drawing)) cursor.state rest)
+    nothing)
+    ∙ ap (make cursor.state) (cursor_gives-running (draws_of drawing) start cursor [] running
+    ∙ ap (λ rest. flow_from (op_reaction cursor.op (draws_of drawing)) cursor.state (rest ++ [])) nothing)
 
 -- a running stage that takes a final has what its operation gives for it to emit
-pub took_final : (drawing : DrawingView) (start : ℕ) (cursor : OpCursor) (place : StreamPosition) (self : Staged) (item : Item) (ending last : Ending) → cursor.ending ≡ None → start ≡ cursor.stop → cursor.state.done ≡ false
-    → ◌≡◌ {A = Staged} (record { op = cursor.op; drawing = drawing; state = cursor_leaves (draws_of drawing) start cursor; pending = cursor_gives (draws_of drawing) start cursor []; place = place }) self
+pub took_final : (drawing : DrawingView) (start : ℕ) (cursor : OpCursor) (place : StreamPosition) (self : Staged) (item : Item) (ending last : Ending)
+    → cursor.ending ≡ None → start ≡ cursor.stop → cursor.state.done ≡ false
+    → ◌≡◌ {A = Staged} (record {
+      op = cursor.op;
+      drawing = drawing;
+      state = cursor_leaves (draws_of drawing) start cursor;
+      pending =
+          cursor_gives (draws_of drawing) start cursor [];
+      place = place;
+    }) self
     → item ≡ final_of ending → ((draws : Draws) → op_giving cursor.op draws cursor.state (final_of ending) ≡ final_of last ∷ [])
-    → ◌≡◌ {A = Staged} (record { op = cursor.op; drawing = drawing; state = with_ending cursor.state last; pending = final_of last ∷ []; place = position_after place item }) (taken self item)
+    → ◌≡◌ {A = Staged} (record {
+      op = cursor.op;
+      drawing = drawing;
+      state = with_ending cursor.state last;
+      pending = final_of last ∷ [];
+      place =
+          position_after place item;
+    }) (taken self item)
 took_final drawing start cursor place self item ending last running read undone view is gives =
-    let make : State → List Item → Staged = λ state pending. record { op = cursor.op; drawing = drawing; state = state; pending = pending; place = position_after place item } in
-    let reacts : react (op_reaction cursor.op (draws_of drawing)) cursor.state item ≡ record { state = with_ending cursor.state last; given = final_of last ∷ [] }
+    let make : State → List Item → Staged = λ state pending. record {
+      op = cursor.op;
+      drawing = drawing;
+      state = state;
+      pending = pending;
+      place =
+          position_after place item;
+    } in
+    let reacts : react (op_reaction cursor.op (draws_of drawing)) cursor.state item
+    ≡ record { state = with_ending cursor.state last; given = final_of last ∷ [] }
     = react-running (op_reaction cursor.op (draws_of drawing)) cursor.state item undone
     ∙ ap (λ item. op_reaction cursor.op (draws_of drawing) cursor.state item) is
-    ∙ during-inside (op_from cursor.op) (op_until cursor.op) (counted (op_giving cursor.op (draws_of drawing))) cursor.state (final_of ending) (is_outside-final (op_from cursor.op) (op_until cursor.op) ending)
+    ∙ during-inside (op_from cursor.op) (op_until cursor.op) (counted (op_giving cursor.op (draws_of drawing))) cursor.state (final_of ending)
+    (is_outside-final (op_from cursor.op) (op_until cursor.op) ending)
     ∙ ap (λ given. record { state = state_after cursor.state (final_of ending) given; given = given }) (gives (draws_of drawing))
     ∙ ap (λ state. record { state = state; given = final_of last ∷ [] }) (state_after-final cursor.state ending last) in
     ap (λ answer. make answer.state answer.given) (sym reacts)
     ∙ ap (λ stage. taken stage item) (sym (read_stage drawing start cursor place running read) ∙ view)
 
 -- a running stage that takes a chunk has what its operation gives for it to emit
-pub took_chunk : (drawing : DrawingView) (start : ℕ) (cursor : OpCursor) (place : StreamPosition) (self : Staged) (span : Span) (t : ℕ) → cursor.ending ≡ None → start ≡ cursor.stop
-    → ◌≡◌ {A = Staged} (record { op = cursor.op; drawing = drawing; state = cursor_leaves (draws_of drawing) start cursor; pending = cursor_gives (draws_of drawing) start cursor []; place = place }) self
+pub took_chunk : (drawing : DrawingView) (start : ℕ) (cursor : OpCursor) (place : StreamPosition) (self : Staged) (span : Span) (t : ℕ) → cursor.ending ≡ None
+    → start ≡ cursor.stop
+    → ◌≡◌ {A = Staged} (record {
+      op = cursor.op;
+      drawing = drawing;
+      state = cursor_leaves (draws_of drawing) start cursor;
+      pending =
+          cursor_gives (draws_of drawing) start cursor [];
+      place = place;
+    }) self
     → span.start ≡ start → span.start < span.stop
-    → ◌≡◌ {A = Staged} (record { op = cursor.op; drawing = drawing; state = cursor_leaves (draws_of drawing) start (record cursor { stop = span.stop; instant = t }); pending = cursor_gives (draws_of drawing) start (record cursor { stop = span.stop; instant = t }) []; place = position_after place (Chunk span t) }) (taken self (Chunk span t))
+    → ◌≡◌ {A = Staged} (record {
+      op = cursor.op;
+      drawing = drawing;
+      state =
+          cursor_leaves (draws_of drawing) start (record cursor { stop = span.stop; instant = t });
+      pending =
+          cursor_gives (draws_of drawing) start (record cursor { stop = span.stop; instant = t }) [];
+      place = position_after place (Chunk span t);
+    })
+    (taken self (Chunk span t))
 took_chunk drawing start cursor place self span t running read view begins some =
     let later : OpCursor = record cursor { stop = span.stop; instant = t } in
     let reaction : Reaction = op_reaction cursor.op (draws_of drawing) in
-    let make : State → List Item → Staged = λ state pending. record { op = cursor.op; drawing = drawing; state = state; pending = pending; place = position_after place (Chunk span t) } in
+    let make : State → List Item → Staged = λ state pending. record {
+      op = cursor.op;
+      drawing = drawing;
+      state = state;
+      pending = pending;
+      place =
+          position_after place (Chunk span t);
+    } in
     let is_rest : rest_of start span.stop t ≡ Chunk span t ∷ [] =
     rest_of-unread start span.stop t (omega (arith, begins, some)) ∙ ap (λ start. Chunk (record { start = start; stop = span.stop }) t ∷ []) (sym begins) in
-    ap (λ state. make state (cursor_gives (draws_of drawing) start later [])) (cursor_leaves-running (draws_of drawing) start later running ∙ ap (λ rest. state_from reaction cursor.state rest) is_rest)
-    ∙ ap (make (react reaction cursor.state (Chunk span t)).state) (cursor_gives-running (draws_of drawing) start later [] running ∙ ap (λ rest. flow_from reaction cursor.state (rest ++ [])) is_rest ∙ append-nil (react reaction cursor.state (Chunk span t)).given)
+    ap (λ state. make state (cursor_gives (draws_of drawing) start later []))
+    (cursor_leaves-running (draws_of drawing) start later running ∙ ap (λ rest. state_from reaction cursor.state rest) is_rest)
+    ∙ ap (make (react reaction cursor.state (Chunk span t)).state) (cursor_gives-running (draws_of drawing) start later [] running
+    ∙ ap (λ rest. flow_from reaction cursor.state (rest ++ [])) is_rest ∙ append-nil (react reaction cursor.state (Chunk span t)).given)
     ∙ ap (λ stage. taken stage (Chunk span t)) (sym (read_stage drawing start cursor place running read) ∙ view)

@@ -15,13 +15,15 @@ use Rattle.tox_defs.proofs.Cutting.{cut_ends}
 use Rattle.tox_defs.proofs.FlowLemmas.{state_same, Continues-counted}
 
 -- the state after the ending alone
-state_at_end : (state : State) (rest : Slice) (ending : Ending) → state_after state (as_chunk rest) (final_of ending ∷ []) ≡ with_ending (with_chunk state) ending
+state_at_end : (state : State) (rest : Slice) (ending : Ending) → state_after state (as_chunk rest) (final_of ending ∷ [])
+    ≡ with_ending (with_chunk state) ending
 state_at_end state rest StillOpen = state_same _ _ _ _ _ _ _ _ (omega arith) (omega arith) (omega arith)
 state_at_end state rest (Closed t) = state_same _ _ _ _ _ _ _ _ (omega arith) (omega arith) (omega arith)
 state_at_end state rest (Reset t) = state_same _ _ _ _ _ _ _ _ (omega arith) (omega arith) (omega arith)
 
 -- the state after a last piece and the ending
-state_at_last : (state : State) (rest piece : Slice) (ending : Ending) → state_after state (as_chunk rest) (as_chunk piece ∷ final_of ending ∷ []) ≡ with_ending (with_chunk (with_piece state piece)) ending
+state_at_last : (state : State) (rest piece : Slice) (ending : Ending) → state_after state (as_chunk rest) (as_chunk piece ∷ final_of ending ∷ [])
+    ≡ with_ending (with_chunk (with_piece state piece)) ending
 state_at_last state rest piece StillOpen = state_same _ _ _ _ _ _ _ _ (omega arith) (omega arith) (omega arith)
 state_at_last state rest piece (Closed t) = state_same _ _ _ _ _ _ _ _ (omega arith) (omega arith) (omega arith)
 state_at_last state rest piece (Reset t) = state_same _ _ _ _ _ _ _ _ (omega arith) (omega arith) (omega arith)
@@ -34,14 +36,17 @@ in_state giving state rest items given later same here =
     subst (λ later. Continues (counted giving) state (as_chunk rest ∷ items) given later items) same here
 
 whole_rest : (giving : Giving) (state : State) (rest : Slice) (items : List Item) → state.done ≡ false → giving state (as_chunk rest) ≡ as_chunk rest ∷ []
-    → Continues (counted giving) state (as_chunk rest ∷ items) (as_chunk rest ∷ []) (after_piece_of rest.span.stop state rest) (rest_of rest.span.stop rest.span.stop rest.instant ++ items)
+    → Continues (counted giving) state (as_chunk rest ∷ items) (as_chunk rest ∷ []) (after_piece_of rest.span.stop state rest)
+    (rest_of rest.span.stop rest.span.stop rest.instant ++ items)
 whole_rest giving state rest items running only =
     rw (le-ltb rest.span.stop rest.span.stop (omega arith), eq-eqb rest.span.stop rest.span.stop refl) (cut_ends giving state rest rest items running only)
 
-pub finds_all : (giving : Giving) (state : State) (rest : Slice) (look : Look) (items : List Item) → state.done ≡ false → FindsAll (giving state (as_chunk rest)) rest look
+pub finds_all : (giving : Giving) (state : State) (rest : Slice) (look : Look) (items : List Item) → state.done ≡ false
+    → FindsAll (giving state (as_chunk rest)) rest look
     → Finds (counted giving) state rest items look
 finds_all giving state rest (Piece piece) items running found =
-    subst (λ piece. Continues (counted giving) state (as_chunk rest ∷ items) (as_chunk piece ∷ []) (after_piece_of rest.span.stop state piece) (rest_of piece.span.stop rest.span.stop rest.instant ++ items)) (sym found.0)
+    subst (λ piece. Continues (counted giving) state (as_chunk rest ∷ items) (as_chunk piece ∷ []) (after_piece_of rest.span.stop state piece)
+    (rest_of piece.span.stop rest.span.stop rest.instant ++ items)) (sym found.0)
     (whole_rest giving state rest items running found.1)
 finds_all giving state rest (LastPiece piece ending) items running found =
     in_state giving state rest items (as_chunk piece ∷ final_of ending ∷ []) _ (state_at_last state rest piece ending)

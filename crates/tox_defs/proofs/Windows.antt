@@ -1,5 +1,6 @@
 -- Reactions that begin later or stop: chunks outside their time pass, and the rest is as if they had none.
-use Rattle.std.proofs.Common.{◌≡◌, ℕ, zero, suc, ◌<◌, ◌≤◌, max, Bool, true, false, List, [], ◌∷◌, ◌++◌, refl, ap, sym, subst, ◌∙◌, append_assoc, arith, inl, ◌⊎◌, ◌||◌, if◌then◌else◌}
+use Rattle.std.proofs.Common.{◌≡◌, ℕ, zero, suc, ◌<◌, ◌≤◌, max, Bool, true, false, List, [], ◌∷◌, ◌++◌, refl, ap, sym, subst, ◌∙◌, append_assoc, arith, inl}
+use Rattle.std.proofs.Common.{◌⊎◌, ◌||◌, if◌then◌else◌}
 use Rattle.std.specs.Prelude.{nat_lt}
 use Rattle.std.proofs.lemmas.List.{append-nil}
 use Rattle.tox_time.specs.declared.streams.span.Span.{Span}
@@ -80,24 +81,28 @@ record Agree (one other : Reaction) (items : List Item) : Type 0 where
 agree_on_nothing : (one other : Reaction) → Agree one other []
 agree_on_nothing one other = record { gives = λ state. refl; leaves = λ state. refl }
 
-agree_on_one : (from until : ℕ) (reaction : Reaction) (item : Item) → is_outside from until item ≡ false → Agree (during from until reaction) reaction (item ∷ [])
+agree_on_one : (from until : ℕ) (reaction : Reaction) (item : Item) → is_outside from until item ≡ false
+    → Agree (during from until reaction) reaction (item ∷ [])
 agree_on_one from until reaction item inside = record {
   gives = λ state. ap (λ (answer : Answer). answer.given ++ []) (react-inside from until reaction state item inside);
   leaves = λ state. ap (λ (answer : Answer). answer.state) (react-inside from until reaction state item inside);
 }
 
-agree_on_rest : (some : Bool) (from until : ℕ) (reaction : Reaction) (item : Item) → is_outside from until item ≡ false → Agree (during from until reaction) reaction (if some then item ∷ [] else [])
+agree_on_rest : (some : Bool) (from until : ℕ) (reaction : Reaction) (item : Item) → is_outside from until item ≡ false
+    → Agree (during from until reaction) reaction (if some then item ∷ [] else [])
 agree_on_rest true from until reaction item inside = agree_on_one from until reaction item inside
 agree_on_rest false from until reaction item inside = agree_on_nothing (during from until reaction) reaction
 
 -- what comes for an item that isn't outside, and a rest on which the two agree
-continues_inside : (from until : ℕ) (reaction : Reaction) (state later : State) (item : Item) (rest given items : List Item) → is_outside from until item ≡ false → Agree (during from until reaction) reaction rest
+continues_inside : (from until : ℕ) (reaction : Reaction) (state later : State) (item : Item) (rest given items : List Item)
+    → is_outside from until item ≡ false → Agree (during from until reaction) reaction rest
     → Continues reaction state (item ∷ []) given later (rest ++ []) → Continues (during from until reaction) state (item ∷ items) given later (rest ++ items)
 continues_inside from until reaction state later item rest given items inside agree inner =
     let whole = react-inside from until reaction state item inside in
     let bare : rest ++ [] ≡ rest = append-nil rest in
     let first : (react reaction state item).given ≡ given ++ flow_from (during from until reaction) later rest =
-    sym (append-nil (react reaction state item).given) ∙ inner.gives ∙ ap (λ rest. given ++ flow_from reaction later rest) bare ∙ ap (λ more. given ++ more) (sym (agree.gives later)) in
+    sym (append-nil (react reaction state item).given) ∙ inner.gives ∙ ap (λ rest. given ++ flow_from reaction later rest) bare
+    ∙ ap (λ more. given ++ more) (sym (agree.gives later)) in
     let then_is : (react reaction state item).state ≡ state_from (during from until reaction) later rest =
     inner.leaves ∙ ap (λ rest. state_from reaction later rest) bare ∙ sym (agree.leaves later) in
     record {
@@ -117,16 +122,21 @@ pub finds_inside : (from until : ℕ) (reaction : Reaction) (state : State) (res
 finds_inside from until reaction state rest (Piece piece) inside inner items =
     let behind : Span = record { start = piece.span.stop; stop = rest.span.stop } in
     continues_inside from until reaction state _ (as_chunk rest) (rest_of piece.span.stop rest.span.stop rest.instant) (as_chunk piece ∷ []) items inside
-    (agree_on_rest (nat_lt piece.span.stop rest.span.stop) from until reaction (Chunk behind rest.instant) (is_outside-span from until behind rest.span rest.instant ∙ inside)) inner
+    (agree_on_rest (nat_lt piece.span.stop rest.span.stop) from until reaction (Chunk behind rest.instant)
+    (is_outside-span from until behind rest.span rest.instant ∙ inside)) inner
 finds_inside from until reaction state rest (LastPiece piece ending) inside inner items =
-    continues_inside from until reaction state _ (as_chunk rest) [] (as_chunk piece ∷ final_of ending ∷ []) items inside (agree_on_nothing (during from until reaction) reaction) inner
+    continues_inside from until reaction state _ (as_chunk rest) [] (as_chunk piece ∷ final_of ending ∷ []) items inside
+    (agree_on_nothing (during from until reaction) reaction) inner
 finds_inside from until reaction state rest (Ended ending) inside inner items =
-    continues_inside from until reaction state _ (as_chunk rest) [] (final_of ending ∷ []) items inside (agree_on_nothing (during from until reaction) reaction) inner
+    continues_inside from until reaction state _ (as_chunk rest) [] (final_of ending ∷ []) items inside (agree_on_nothing (during from until reaction) reaction)
+    inner
 finds_inside from until reaction state rest (Uncounted piece) inside inner items =
-    continues_inside from until reaction state _ (as_chunk rest) [] (as_chunk piece ∷ []) items inside (agree_on_nothing (during from until reaction) reaction) inner
+    continues_inside from until reaction state _ (as_chunk rest) [] (as_chunk piece ∷ []) items inside (agree_on_nothing (during from until reaction) reaction)
+    inner
 
 -- a look that finds a rest outside the time
-pub finds_outside : (from until : ℕ) (reaction : Reaction) (state : State) (rest piece : Slice) (items : List Item) → state.done ≡ false → is_outside from until (as_chunk rest) ≡ true
+pub finds_outside : (from until : ℕ) (reaction : Reaction) (state : State) (rest piece : Slice) (items : List Item) → state.done ≡ false
+    → is_outside from until (as_chunk rest) ≡ true
     → piece ≡ record { span = rest.span; instant = max state.previous rest.instant }
     → Finds (during from until reaction) state rest items (Uncounted piece)
 finds_outside from until reaction state rest piece items running outside is =
@@ -139,27 +149,44 @@ finds_outside from until reaction state rest piece items running outside is =
     }
 
 -- a chunk that is outside or not
-keeps_at_chunk : (outside : Bool) (reaction : Reaction) (previous chunks pieces passed : ℕ) (span : Span) (t : ℕ) → previous ≤ horizon → span.start < span.stop → t ≤ horizon
-    → GoesOn Whatever (reaction (open_state previous chunks pieces passed) (Chunk span t)).given span.start previous span.stop t ⊎ EndsThere (reaction (open_state previous chunks pieces passed) (Chunk span t)).given span.start previous
-    → GoesOn Whatever (if outside then uncounted_answer (open_state previous chunks pieces passed) (Chunk span t) else reaction (open_state previous chunks pieces passed) (Chunk span t)).given span.start previous span.stop t ⊎ EndsThere (if outside then uncounted_answer (open_state previous chunks pieces passed) (Chunk span t) else reaction (open_state previous chunks pieces passed) (Chunk span t)).given span.start previous
+keeps_at_chunk : (outside : Bool) (reaction : Reaction) (previous chunks pieces passed : ℕ) (span : Span) (t : ℕ) → previous ≤ horizon → span.start < span.stop
+    → t ≤ horizon
+    → GoesOn Whatever (reaction (open_state previous chunks pieces passed) (Chunk span t)).given span.start previous span.stop t
+    ⊎ EndsThere (reaction (open_state previous chunks pieces passed) (Chunk span t)).given span.start previous
+    → GoesOn Whatever (if outside then uncounted_answer (open_state previous chunks pieces passed) (Chunk span t) else reaction
+    (open_state previous chunks pieces passed) (Chunk span t)).given span.start previous span.stop t
+    ⊎ EndsThere (if outside then uncounted_answer (open_state previous chunks pieces passed) (Chunk span t) else reaction
+    (open_state previous chunks pieces passed) (Chunk span t)).given span.start previous
 keeps_at_chunk true reaction previous chunks pieces passed span t fits some instant inner =
-    inl (record { in_row = (refl, some, omega arith, omega (arith, fits, instant), refl); no_final = refl; related = tt; instant = omega (arith, fits, instant) })
+    inl (record {
+      in_row = (refl, some, omega arith, omega (arith, fits, instant), refl);
+      no_final = refl;
+      related = tt;
+      instant =
+          omega (arith, fits, instant);
+    })
 keeps_at_chunk false reaction previous chunks pieces passed span t fits some instant inner = inner
 
-follows_at_chunk : (outside : Bool) (reaction : Reaction) (previous chunks pieces passed : ℕ) (span : Span) (t : ℕ) → Follows previous (reaction (open_state previous chunks pieces passed) (Chunk span t))
-    → Follows previous (if outside then uncounted_answer (open_state previous chunks pieces passed) (Chunk span t) else reaction (open_state previous chunks pieces passed) (Chunk span t))
+follows_at_chunk : (outside : Bool) (reaction : Reaction) (previous chunks pieces passed : ℕ) (span : Span) (t : ℕ)
+    → Follows previous (reaction (open_state previous chunks pieces passed) (Chunk span t))
+    → Follows previous (if outside then uncounted_answer (open_state previous chunks pieces passed) (Chunk span t) else reaction
+    (open_state previous chunks pieces passed) (Chunk span t))
 follows_at_chunk true reaction previous chunks pieces passed span t inner = record { instant = refl; done = refl }
 follows_at_chunk false reaction previous chunks pieces passed span t inner = inner
 
 module _ (from until : ℕ) (reaction : Reaction) (keeps : KeepsStreams Whatever reaction) where
-  follows_final : (previous chunks pieces passed : ℕ) (item : Item) → is_final item ≡ true → Follows previous (during from until reaction (open_state previous chunks pieces passed) item)
+  follows_final : (previous chunks pieces passed : ℕ) (item : Item) → is_final item ≡ true
+      → Follows previous (during from until reaction (open_state previous chunks pieces passed) item)
   follows_final previous chunks pieces passed item final =
-      subst (λ (answer : Answer). Follows previous answer) (sym (during-inside from until reaction (open_state previous chunks pieces passed) item (is_outside-is_final from until item final)))
+      subst (λ (answer : Answer). Follows previous answer) (sym (during-inside from until reaction (open_state previous chunks pieces passed) item
+      (is_outside-is_final from until item final)))
       (keeps.follows previous chunks pieces passed item)
 
-  follows_during : (previous chunks pieces passed : ℕ) (item : Item) → Follows previous (during from until reaction (open_state previous chunks pieces passed) item)
+  follows_during : (previous chunks pieces passed : ℕ) (item : Item) → Follows previous
+      (during from until reaction (open_state previous chunks pieces passed) item)
   follows_during previous chunks pieces passed (Chunk span t) =
-      follows_at_chunk (is_outside from until (Chunk span t)) reaction previous chunks pieces passed span t (keeps.follows previous chunks pieces passed (Chunk span t))
+      follows_at_chunk (is_outside from until (Chunk span t)) reaction previous chunks pieces passed span t
+      (keeps.follows previous chunks pieces passed (Chunk span t))
   follows_during previous chunks pieces passed (Closed t) = follows_final previous chunks pieces passed (Closed t) refl
   follows_during previous chunks pieces passed (Reset t) = follows_final previous chunks pieces passed (Reset t) refl
   follows_during previous chunks pieces passed Quiet = follows_final previous chunks pieces passed Quiet refl
@@ -168,7 +195,8 @@ module _ (from until : ℕ) (reaction : Reaction) (keeps : KeepsStreams Whatever
 pub during_keeps : (from until : ℕ) (reaction : Reaction) → KeepsStreams Whatever reaction → KeepsStreams Whatever (during from until reaction)
 during_keeps from until reaction keeps = record {
   at_chunk = λ previous chunks pieces passed span t since fits related some ordered instant.
-      keeps_at_chunk (is_outside from until (Chunk span t)) reaction previous chunks pieces passed span t fits some instant (keeps.at_chunk previous chunks pieces passed span t since fits related some ordered instant);
+      keeps_at_chunk (is_outside from until (Chunk span t)) reaction previous chunks pieces passed span t fits some instant
+      (keeps.at_chunk previous chunks pieces passed span t since fits related some ordered instant);
   at_final = λ previous chunks pieces passed item position since fits related final follows.
       subst (λ (answer : Answer). IsStreamFrom position previous answer.given)
       (sym (during-inside from until reaction (open_state previous chunks pieces passed) item (is_outside-is_final from until item final)))

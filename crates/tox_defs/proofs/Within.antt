@@ -22,21 +22,24 @@ LieWithin items (Reset t ∷ given) = LieWithin items given
 LieWithin items (Quiet ∷ given) = LieWithin items given
 
 -- in the first of them
-pub in_first : (span whole : Span) (t : ℕ) (items : List Item) → whole.start ≤ span.start → span.stop ≤ whole.stop → Any (LiesInChunk span) (Chunk whole t ∷ items)
+pub in_first : (span whole : Span) (t : ℕ) (items : List Item) → whole.start ≤ span.start → span.stop ≤ whole.stop
+    → Any (LiesInChunk span) (Chunk whole t ∷ items)
 in_first span whole t items from to = (0, Chunk whole t, omega arith, refl, (from, to))
 
 -- what is given for a chunk lies in it
 abbrev pub GivesWithin : Giving → Type 0
 GivesWithin giving = (state : State) (item : Item) (items : List Item) → LieWithin (item ∷ items) (giving state item)
 
-pub leave_within : (size wait : ℕ → ℕ) (number start left most since t : ℕ) (whole : Span) (at : ℕ) (items : List Item) → whole.start ≤ start → (0 < left → start + left ≤ whole.stop)
+pub leave_within : (size wait : ℕ → ℕ) (number start left most since t : ℕ) (whole : Span) (at : ℕ) (items : List Item) → whole.start ≤ start
+    → (0 < left → start + left ≤ whole.stop)
     → LieWithin (Chunk whole at ∷ items) (leave wait since t (cut size number start left most))
 leave_within size wait number start zero most since t whole at items from to = tt
 leave_within size wait number start (suc left) zero since t whole at items from to = tt
 leave_within size wait number start (suc left) (suc most) since t whole at items from to =
     let end : start + suc left ≤ whole.stop = to (omega arith) in (
       in_first (record { start = start; stop = start + min (size number) (suc left) }) whole at items from (omega arith),
-      leave_within size wait (number + 1) (start + min (size number) (suc left)) (suc left - size number) most (plus (max since t) (wait (start + min (size number) (suc left) - start))) t whole at items (omega arith) (λ some. omega arith),
+      leave_within size wait (number + 1) (start + min (size number) (suc left)) (suc left - size number) most
+          (plus (max since t) (wait (start + min (size number) (suc left) - start))) t whole at items (omega arith) (λ some. omega arith),
     )
 
 pub chunk_within : (span : Span) (t later : ℕ) (items : List Item) → LieWithin (Chunk span t ∷ items) (Chunk span later ∷ [])

@@ -9,7 +9,8 @@ use Rattle.tox_draw.specs.Drawn.{IsPictureIn}
 use Rattle.tox_draw.specs.Frames.{IsFrame}
 use Rattle.tox_draw.specs.Pictures.{picture_text}
 
-pub text_drawn : (result : Result (String Global) AllocError) (setting : Setting) (picture : Picture) → picture.setting ≡ setting → IsFrame picture.frame → IfOk result (λ text. string_bytes text ≡ picture_text picture)
+pub text_drawn : (result : Result (String Global) AllocError) (setting : Setting) (picture : Picture) → picture.setting ≡ setting → IsFrame picture.frame
+    → IfOk result (λ text. string_bytes text ≡ picture_text picture)
     → IfOk result (λ text. IsPictureIn setting (string_bytes text))
 text_drawn (Ok text) setting picture stands frame is = record { picture = picture; stands = stands; frame = frame; is = is }
 text_drawn (Err error) setting picture stands frame is = is

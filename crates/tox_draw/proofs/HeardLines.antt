@@ -1,5 +1,6 @@
 -- The lines of a log, heard one by one.
-use Rattle.std.proofs.Common.{◌≡◌, ℕ, true, false, List, [], ◌∷◌, ◌++◌, Option, Some, None, inl, inr, refl, ap, sym, subst, ◌∙◌, append-nil, arith, string_bytes, Result, Ok, Err, IfOk}
+use Rattle.std.proofs.Common.{◌≡◌, ℕ, true, false, List, [], ◌∷◌, ◌++◌, Option, Some, None, inl, inr, refl, ap, sym, subst, ◌∙◌, append-nil, arith}
+use Rattle.std.proofs.Common.{string_bytes, Result, Ok, Err, IfOk}
 use Rattle.std.specs.Prelude.{◌⊎◌, ◌≢◌, IfNone, is_some}
 use Rattle.std.specs.Io.KnownBytes.{IsAtEnd, prepend_known}
 use Rattle.std.proofs.lemmas.List.Elements.{All-nil}
@@ -67,30 +68,37 @@ module _ (frame : Frame) (means : List Item → List Item) where
   }
 
   -- the line of an event more
-  so-far-event : (given before after : Option (List ℕ)) (old new : OpenLog) (hearing next : Hearing) (runner later : RunnerView) (event : LinkEvent) (line : LogLine)
+  so-far-event : (given before after : Option (List ℕ)) (old new : OpenLog) (hearing next : Hearing) (runner later : RunnerView) (event : LinkEvent)
+      (line : LogLine)
       → logged_line next.strands.source_reset event ≡ line → (next.strands.source_reset ≡ hearing.strands.source_reset) ⊎ (old.heard.ended ≡ false)
-      → Hands old new before after line → is_last line ≡ false → ComesNext old.heard (Event event) → new.heard ≡ heard_with old.heard (Event event) → IsWritable (Event event) → HearsEvent frame hearing runner event next later
+      → Hands old new before after line → is_last line ≡ false → ComesNext old.heard (Event event) → new.heard ≡ heard_with old.heard (Event event)
+      → IsWritable (Event event) → HearsEvent frame hearing runner event next later
       → HearsSoFar frame means given (to_hand old before) old hearing runner → HearsSoFar frame means given (to_hand new after) new next later
   so-far-event given before after old new hearing next runner later event line is kept hands going comes heard writable hears so_far =
       let was = hearing.strands.source_reset in
       let now = next.strands.source_reset in
       let none : so_far.last ≡ None = none_yet so_far.last (sym so_far.over ∙ hands.going) in
       let at : so_far.position ≡ old.heard = so_far.at hands.going in
-      let lines : event_lines was so_far.events ++ last_lines so_far.last ≡ event_lines was so_far.events = ap (λ last. event_lines was so_far.events ++ last_lines last) none ∙ append-nil (event_lines was so_far.events) in
-      let more : (event_lines was so_far.events ++ last_lines so_far.last) ++ (line_words line ++ 10 ∷ []) ≡ event_lines now (so_far.events ++ event ∷ []) ++ [] =
+      let lines : event_lines was so_far.events ++ last_lines so_far.last ≡ event_lines was so_far.events =
+      ap (λ last. event_lines was so_far.events ++ last_lines last) none ∙ append-nil (event_lines was so_far.events) in
+      let more : (event_lines was so_far.events ++ last_lines so_far.last) ++ (line_words line ++ 10 ∷ [])
+      ≡ event_lines now (so_far.events ++ event ∷ []) ++ [] =
       ap (λ line. (event_lines was so_far.events ++ last_lines so_far.last) ++ (line_words line ++ 10 ∷ [])) (sym is)
-      ∙ line-next was now (event_lines was so_far.events ++ last_lines so_far.last) so_far.events event (stays-so at kept) lines ∙ sym (append-nil (event_lines now (so_far.events ++ event ∷ []))) in record {
+      ∙ line-next was now (event_lines was so_far.events ++ last_lines so_far.last) so_far.events event (stays-so at kept) lines
+      ∙ sym (append-nil (event_lines now (so_far.events ++ event ∷ []))) in record {
         events = so_far.events ++ event ∷ [];
         last = None;
         position = heard_with so_far.position (Event event);
-        text = prepend_more (event_lines was so_far.events ++ last_lines so_far.last) (line_words line ++ 10 ∷ []) given (to_hand old before) (to_hand new after) so_far.text hands.given
+        text = prepend_more (event_lines was so_far.events ++ last_lines so_far.last) (line_words line ++ 10 ∷ []) given (to_hand old before)
+            (to_hand new after) so_far.text hands.given
             ∙ ap (λ lines. prepend_known lines (to_hand new after)) more;
         over = hands.over ∙ going;
         at = λ _. ap (λ position. heard_with position (Event event)) at ∙ sym heard;
         heard = hears means so_far.events so_far.position (subst (λ position. ComesNext position (Event event)) (sym at) comes) writable so_far.heard.heard;
       }
     where
-      stays-so : so_far.position ≡ old.heard → (next.strands.source_reset ≡ hearing.strands.source_reset) ⊎ (old.heard.ended ≡ false) → (next.strands.source_reset ≡ hearing.strands.source_reset) ⊎ (has_source_end so_far.events ≡ false)
+      stays-so : so_far.position ≡ old.heard → (next.strands.source_reset ≡ hearing.strands.source_reset) ⊎ (old.heard.ended ≡ false)
+          → (next.strands.source_reset ≡ hearing.strands.source_reset) ⊎ (has_source_end so_far.events ≡ false)
       stays-so at (inl same) = inl same
       stays-so at (inr going) = inr (so_far.heard.heard.order.ended ∙ ap (λ position. position.ended) at ∙ going)
 
@@ -99,21 +107,26 @@ module _ (frame : Frame) (means : List Item → List Item) where
       → Hands old new before after line → GoesOnWith old.heard line new.heard → HearsLogLine frame hearing runner line next later
       → HearsSoFar frame means given (to_hand old before) old hearing runner → HearsSoFar frame means given (to_hand new after) new next later
   so-far-line given before after old new hearing next runner later (Event (Piece len t)) hands goes hears so_far =
-      so-far-event given before after old new hearing next runner later (Piece len t) (Event (Piece len t)) (piece-line next.strands.source_reset len t) (inl hears.1)
+      so-far-event given before after old new hearing next runner later (Piece len t) (Event (Piece len t)) (piece-line next.strands.source_reset len t)
+      (inl hears.1)
       hands refl goes.next goes.heard hands.writable hears.0 so_far
   so-far-line given before after old new hearing next runner later (Event (SourceEnd t)) hands goes hears so_far =
-      so-far-event given before after old new hearing next runner later (SourceEnd t) (Event (SourceEnd t)) (ap (λ reset. logged_line reset (SourceEnd t)) hears.1) (inr goes.next.2)
+      so-far-event given before after old new hearing next runner later (SourceEnd t) (Event (SourceEnd t))
+      (ap (λ reset. logged_line reset (SourceEnd t)) hears.1) (inr goes.next.2)
       hands refl goes.next goes.heard hands.writable hears.0 so_far
   so-far-line given before after old new hearing next runner later (Event (Wrote slice reading)) hands goes hears so_far =
-      so-far-event given before after old new hearing next runner later (Wrote slice reading) (Event (Wrote slice reading)) (wrote-line next.strands.source_reset slice reading) (inl hears.1)
+      so-far-event given before after old new hearing next runner later (Wrote slice reading) (Event (Wrote slice reading))
+      (wrote-line next.strands.source_reset slice reading) (inl hears.1)
       hands refl goes.next goes.heard hands.writable hears.0 so_far
   so-far-line given before after old new hearing next runner later (SourceReset t) hands goes hears so_far =
-      so-far-event given before after old new hearing next runner later (SourceEnd t) (SourceReset t) (ap (λ reset. logged_line reset (SourceEnd t)) hears.1) (inr goes.next.2)
+      so-far-event given before after old new hearing next runner later (SourceEnd t) (SourceReset t) (ap (λ reset. logged_line reset (SourceEnd t)) hears.1)
+      (inr goes.next.2)
       hands refl goes.next goes.heard hands.writable hears.0 so_far
   so-far-line given before after old new hearing next runner later (Last last) hands goes hears so_far =
       let none : so_far.last ≡ None = none_yet so_far.last (sym so_far.over ∙ hands.going) in
       let was = hearing.strands.source_reset in
-      let lines : event_lines was so_far.events ++ last_lines so_far.last ≡ event_lines was so_far.events = ap (λ last. event_lines was so_far.events ++ last_lines last) none ∙ append-nil (event_lines was so_far.events) in
+      let lines : event_lines was so_far.events ++ last_lines so_far.last ≡ event_lines was so_far.events =
+      ap (λ last. event_lines was so_far.events ++ last_lines last) none ∙ append-nil (event_lines was so_far.events) in
       let heard = so_far.heard.heard in
       let same_next = hears.0 in
       let same_later = hears.1 in
@@ -130,7 +143,8 @@ module _ (frame : Frame) (means : List Item → List Item) where
         events = so_far.events;
         last = Some last;
         position = so_far.position;
-        text = prepend_more (event_lines was so_far.events ++ last_lines so_far.last) (line_words (Last last) ++ 10 ∷ []) given (to_hand old before) (to_hand new after) so_far.text hands.given
+        text = prepend_more (event_lines was so_far.events ++ last_lines so_far.last) (line_words (Last last) ++ 10 ∷ []) given (to_hand old before)
+            (to_hand new after) so_far.text hands.given
             ∙ ap (λ lines. prepend_known (lines ++ last_lines (Some last)) (to_hand new after)) lines
             ∙ ap (λ next. prepend_known (event_lines next.strands.source_reset so_far.events ++ last_lines (Some last)) (to_hand new after)) (sym same_next);
         over = hands.over;
@@ -151,14 +165,16 @@ module _ (frame : Frame) (means : List Item → List Item) where
     position = so_far.position;
     torn = lacks.torn;
     left = lacks.left;
-    text = prepend_more (event_lines hearing.strands.source_reset so_far.events ++ last_lines so_far.last) lacks.torn given before lacks.left so_far.text lacks.given;
+    text = prepend_more (event_lines hearing.strands.source_reset so_far.events ++ last_lines so_far.last) lacks.torn given before lacks.left so_far.text
+        lacks.given;
     unended = lacks.unended;
     ended = lacks.ended;
     heard = so_far.heard;
   }
 
 -- what holds where no line came
-pub no-line : (handed : Option LogLine) (bytes : Option (List ℕ)) → ((line : LogLine) → handed ≡ Some line → ⊥) → IfNone handed (LacksLine bytes) → LacksLine bytes
+pub no-line : (handed : Option LogLine) (bytes : Option (List ℕ)) → ((line : LogLine) → handed ≡ Some line → ⊥) → IfNone handed (LacksLine bytes)
+    → LacksLine bytes
 no-line None bytes other lacks = lacks
 no-line (Some line) bytes other lacks = absurd (other line refl)
 
@@ -174,7 +190,8 @@ lines-behind : (before handed : Option (List ℕ)) (header torn lines rest : Lis
 lines-behind before handed header torn lines rest left given (inl none) whole here last ended = (
   rest,
   left,
-  given ∙ ap (λ torn. prepend_known (header ++ torn) handed) none ∙ ap (λ header. prepend_known header handed) (append-nil header) ∙ ap (prepend_known header) here ∙ sym (prepend-append header (lines ++ rest) left),
+  given ∙ ap (λ torn. prepend_known (header ++ torn) handed) none ∙ ap (λ header. prepend_known header handed) (append-nil header)
+      ∙ ap (prepend_known header) here ∙ sym (prepend-append header (lines ++ rest) left),
   last,
   ended,
 )
@@ -195,8 +212,10 @@ pub says-log : (frame : Frame) (means : List Item → List Item) (before after :
     → Opens before after log → (all : HearsAll frame means (to_hand log after) hearing runner)
     → SaysLog before (record { heading = log.heading; chain = log.chain; events = all.events; source_reset = hearing.strands.source_reset; last = all.last })
 says-log frame means before after log hearing runner opens all =
-    let (last, end, text, unended, ended) = lines-behind before (to_hand log after) (header_text (string_bytes log.heading.proxy) log.heading.number log.heading.stream log.heading.seed log.chain opens.names) opens.torn
-    (event_lines hearing.strands.source_reset all.events ++ last_lines all.last) all.torn all.left opens.given opens.rest opens.unended all.text all.unended all.ended in record {
+    let (last, end, text, unended, ended) = lines-behind before (to_hand log after)
+    (header_text (string_bytes log.heading.proxy) log.heading.number log.heading.stream log.heading.seed log.chain opens.names) opens.torn
+    (event_lines hearing.strands.source_reset all.events ++ last_lines all.last) all.torn all.left opens.given opens.rest opens.unended all.text all.unended
+    all.ended in record {
       names = opens.names;
       torn = last;
       left = end;
@@ -207,23 +226,30 @@ says-log frame means before after log hearing runner opens all =
     }
 
 -- what is kept of it
-pub records-log : (frame : Frame) (means : List Item → List Item) (log : LogText) (position : StreamPosition) (hearing : Hearing) (runner : RunnerView) (last : Ending) (kept : Record)
-    → HearsLines frame means log.events log.last position hearing runner → means (heard log.events) ≡ due_items log → to_come runner (Quiet ∷ []) ≡ final_of last ∷ []
-    → log.source_reset ≡ hearing.strands.source_reset → kept.strands ≡ hearing.strands → kept.due_end ≡ last → kept.written ≡ hearing.written → kept.end ≡ hearing.end → RecordsLog frame log kept
+pub records-log : (frame : Frame) (means : List Item → List Item) (log : LogText) (position : StreamPosition) (hearing : Hearing) (runner : RunnerView)
+    (last : Ending) (kept : Record)
+    → HearsLines frame means log.events log.last position hearing runner → means (heard log.events) ≡ due_items log
+    → to_come runner (Quiet ∷ []) ≡ final_of last ∷ []
+    → log.source_reset ≡ hearing.strands.source_reset → kept.strands ≡ hearing.strands → kept.due_end ≡ last → kept.written ≡ hearing.written
+    → kept.end ≡ hearing.end → RecordsLog frame log kept
 records-log frame means log position hearing runner last kept lines meaning only reset strands due_end written end =
     let heard = lines.heard in
-    let whole = plan-whole frame means (heard_from 0 log.events) hearing.strands.planned runner (Quiet ∷ []) last (leads-stream log.events position heard.order) only heard.due in record {
+    let whole = plan-whole frame means (heard_from 0 log.events) hearing.strands.planned runner (Quiet ∷ []) last (leads-stream log.events position heard.order)
+    only heard.due in record {
       arrived = subst (λ strands. IsStrand frame (table (heard_from 0 log.events (Quiet ∷ []))) strands.arrived) (sym strands) heard.arrived;
       source_end = ap (λ strands. strands.source_end) strands ∙ heard.source_end;
       source_reset = ap (λ strands. strands.source_reset) strands ∙ sym reset;
-      due = subst (λ strands. IsStrand frame (table (due_items log)) strands.planned) (sym strands) (subst (λ items. IsStrand frame (table items) hearing.strands.planned) meaning whole.0);
+      due = subst (λ strands. IsStrand frame (table (due_items log)) strands.planned) (sym strands)
+          (subst (λ items. IsStrand frame (table items) hearing.strands.planned) meaning whole.0);
       due_end = due_end ∙ whole.1 ∙ ap ending meaning;
-      written = subst (λ strand. (stop : ℕ) → IsGapless 0 (said log.events) stop → IsStrand frame (written_table log.events) strand) (sym written) heard.written;
+      written = subst (λ strand. (stop : ℕ) → IsGapless 0 (said log.events) stop → IsStrand frame (written_table log.events) strand) (sym written)
+          heard.written;
       end = end ∙ lines.end;
     }
 
 -- nothing was heard yet
-pub begins-hearing : (frame : Frame) (means : List Item → List Item) (log : OpenLog) (hearing : Hearing) (runner : RunnerView) → log.over ≡ false → log.heard ≡ first_position
+pub begins-hearing : (frame : Frame) (means : List Item → List Item) (log : OpenLog) (hearing : Hearing) (runner : RunnerView) → log.over ≡ false
+    → log.heard ≡ first_position
     → ((items : List Item) → IsStream items → to_come runner items ≡ means items)
     → runner.idle ≡ true → runner.position ≡ 0 → runner.piece ≡ no_piece → runner.latest ≡ 0
     → IsStrand frame [] hearing.strands.arrived → IsStrand frame [] hearing.strands.planned → IsStrand frame [] hearing.written
@@ -261,10 +287,12 @@ pub picture-shown : (result : Result (String Global) AllocError) (setting : Sett
     → ((table : List ℕ) → IsStrand frame table kept.strands.arrived → IsCurve frame table picture.arrived)
     → ((table : List ℕ) → IsStrand frame table kept.strands.planned → IsCurve frame table picture.planned)
     → ((table : List ℕ) → IsStrand frame table kept.written → IsCurve frame table curve) → picture.written ≡ Some curve
-    → picture.source_end ≡ kept.strands.source_end → picture.source_reset ≡ kept.strands.source_reset → picture.planned_end ≡ end_of kept.due_end → picture.end ≡ kept.end
+    → picture.source_end ≡ kept.strands.source_end → picture.source_reset ≡ kept.strands.source_reset → picture.planned_end ≡ end_of kept.due_end
+    → picture.end ≡ kept.end
     → IfOk result (λ text. string_bytes text ≡ picture_text picture)
     → IfOk result (λ text. (given : Option (List ℕ)) → KeepsRecord frame given kept → IsPictureOn frame.time given setting (string_bytes text))
-picture-shown (Ok text) setting frame kept picture curve stands same is_frame arrived planned written has source_end source_reset planned_end end is = λ (given : Option (List ℕ)) (keeps : KeepsRecord frame given kept).
+picture-shown (Ok text) setting frame kept picture curve stands same is_frame arrived planned written has source_end source_reset planned_end end is =
+    λ (given : Option (List ℕ)) (keeps : KeepsRecord frame given kept).
     let records = keeps.records in
     let shown : IsPictureOf given setting (string_bytes text) = record {
       log = keeps.log;
@@ -273,7 +301,8 @@ picture-shown (Ok text) setting frame kept picture curve stands same is_frame ar
       stands = stands;
       frame = subst IsFrame (sym same) is_frame;
       shows = record {
-        arrived = subst (λ frame. IsCurve frame (table (heard keeps.log.events)) picture.arrived) (sym same) (arrived (table (heard keeps.log.events)) records.arrived);
+        arrived = subst (λ frame. IsCurve frame (table (heard keeps.log.events)) picture.arrived) (sym same)
+            (arrived (table (heard keeps.log.events)) records.arrived);
         source_end = source_end ∙ records.source_end;
         source_reset = source_reset ∙ records.source_reset;
         due = subst (λ frame. IsCurve frame (table (due_items keeps.log)) picture.planned) (sym same) (planned (table (due_items keeps.log)) records.due);
@@ -281,7 +310,8 @@ picture-shown (Ok text) setting frame kept picture curve stands same is_frame ar
         written = λ stop gapless. (
           curve,
           has,
-          subst (λ frame. IsCurve frame (written_table keeps.log.events) curve) (sym same) (written (written_table keeps.log.events) (records.written stop gapless)),
+          subst (λ frame. IsCurve frame (written_table keeps.log.events) curve) (sym same)
+              (written (written_table keeps.log.events) (records.written stop gapless)),
         );
         end = end ∙ records.end;
       };

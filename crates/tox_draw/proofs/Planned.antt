@@ -1,5 +1,6 @@
 -- What a runner gives, drawn step by step.
-use Rattle.std.proofs.Common.{◌≡◌, ℕ, ◌+◌, ◌-◌, ◌<◌, ◌≤◌, ◌^◌, true, false, List, [], ◌∷◌, ◌++◌, replicate, Option, Some, None, Ok, Err, refl, ap, sym, subst, ◌∙◌, append_assoc, append-nil, length-append, arith, max}
+use Rattle.std.proofs.Common.{◌≡◌, ℕ, ◌+◌, ◌-◌, ◌<◌, ◌≤◌, ◌^◌, true, false, List, [], ◌∷◌, ◌++◌, replicate, Option, Some, None, Ok, Err, refl, ap, sym, subst}
+use Rattle.std.proofs.Common.{◌∙◌, append_assoc, append-nil, length-append, arith, max}
 use Rattle.std.proofs.lemmas.Bool.Decides.{nat_tests}
 use Rattle.std.proofs.lemmas.List.{length-replicate}
 use Rattle.tox_time.specs.declared.streams.arrivals.ArrivalFault.{ArrivalFault}
@@ -26,24 +27,29 @@ use Rattle.tox_draw.specs.Planning.{DrawsCuts, DrawsPiece, DrawsPlan, DrawsSourc
 
 -- a slice more
 pub plan-cut : (frame : Frame) (means behind : List Item → List Item) (old new : Strand) (before after : RunnerView) (slice : Slice) (len : ℕ)
-    → before.piece.span.stop ≤ 2 ^ 40 → IsCut before after slice → slice.span.start ≡ before.position → after.position ≡ slice.span.stop → len ≡ slice.span.stop - slice.span.start
+    → before.piece.span.stop ≤ 2 ^ 40 → IsCut before after slice → slice.span.start ≡ before.position → after.position ≡ slice.span.stop
+    → len ≡ slice.span.stop - slice.span.start
     → PassesBytes frame len slice.instant old new
     → DrawsPlan frame means behind old before → DrawsPlan frame means behind new after
 plan-cut frame means behind old new before after slice len few cut at stands is adds plan =
     let part : List ℕ = replicate len slice.instant in
     let some = cut.within.some in
     let comes : (items : List Item) → table (to_come before items) ≡ part ++ table (to_come after items) =
-    λ (items : List Item). (goes-cut before after slice [] items cut).tables ∙ ap (λ ts. ts ++ table (to_come after items)) (append-nil (replicate (span_len slice.span) slice.instant)) ∙ ap (λ n. replicate n slice.instant ++ table (to_come after items)) (sym is) in record {
+    λ (items : List Item). (goes-cut before after slice [] items cut).tables
+    ∙ ap (λ ts. ts ++ table (to_come after items)) (append-nil (replicate (span_len slice.span) slice.instant))
+    ∙ ap (λ n. replicate n slice.instant ++ table (to_come after items)) (sym is) in record {
       due = plan.due ++ part;
       drawn = adds plan.due plan.drawn (omega (arith, some, is)) (omega (arith, plan.counted, at, some, cut.within.to, few, is));
       counted = omega (arith, length-append plan.due part, length-replicate len slice.instant, plan.counted, at, stands, some, is);
-      tables = λ items stream. append_assoc plan.due part (table (to_come after items)) ∙ ap (λ ts. plan.due ++ ts) (sym (comes items)) ∙ plan.tables items stream;
+      tables = λ items stream. append_assoc plan.due part (table (to_come after items)) ∙ ap (λ ts. plan.due ++ ts) (sym (comes items))
+          ∙ plan.tables items stream;
       endings = λ items stream. sym (goes-cut before after slice [] items cut).endings ∙ plan.endings items stream;
     }
 
 -- no slice more
 pub plan-same : (frame : Frame) (means behind : List Item → List Item) (planned : Strand) (before after : RunnerView) → after.position ≡ before.position
-    → ((items : List Item) → to_come after items ≡ to_come before items) → DrawsPlan frame means behind planned before → DrawsPlan frame means behind planned after
+    → ((items : List Item) → to_come after items ≡ to_come before items) → DrawsPlan frame means behind planned before
+    → DrawsPlan frame means behind planned after
 plan-same frame means behind planned before after at same plan = record {
   due = plan.due;
   drawn = plan.drawn;
@@ -53,7 +59,8 @@ plan-same frame means behind planned before after at same plan = record {
 }
 
 -- what was heard, otherwise put together
-pub plan-behind : (frame : Frame) (means behind other : List Item → List Item) (planned : Strand) (runner : RunnerView) → ((items : List Item) → other items ≡ behind items)
+pub plan-behind : (frame : Frame) (means behind other : List Item → List Item) (planned : Strand) (runner : RunnerView)
+    → ((items : List Item) → other items ≡ behind items)
     → DrawsPlan frame means behind planned runner → DrawsPlan frame means other planned runner
 plan-behind frame means behind other planned runner same plan = record {
   due = plan.due;
@@ -89,7 +96,8 @@ has-ended runner len t heard fault next waits refused = by runner.ending refl
     by (Some last) is = (last, is)
     by None is =
         let rejected : answer_of (piece_fault runner.piece.span.stop runner.latest false len t) ≡ Err fault = rw is at refused in
-        let accepted : piece_fault runner.piece.span.stop runner.latest false len t ≡ None = fits runner.piece.span.stop runner.latest len t (omega (arith, waits.latest, next.0)) next.2 (omega (arith, waits.stop is, next.3)) in
+        let accepted : piece_fault runner.piece.span.stop runner.latest false len t ≡ None =
+        fits runner.piece.span.stop runner.latest len t (omega (arith, waits.latest, next.0)) next.2 (omega (arith, waits.stop is, next.3)) in
         let no : Ok tt ≡ Err fault = sym (ap answer_of accepted) ∙ rejected in cc
 
 -- behind its ending nothing comes
@@ -120,12 +128,14 @@ draws-refused frame planned runner len t fault refused means behind heard next w
 
 -- a piece that was taken, and what it brings
 pub draws-taken : (frame : Frame) (old new : Strand) (before mid after : RunnerView) (len t : ℕ) → offer_answer before len t ≡ Ok tt
-    → mid.position ≡ before.position → mid.piece ≡ next_piece before len t → mid.latest ≡ t → ((items : List Item) → to_come mid items ≡ to_come before (as_chunk (next_piece before len t) ∷ items))
+    → mid.position ≡ before.position → mid.piece ≡ next_piece before len t → mid.latest ≡ t
+    → ((items : List Item) → to_come mid items ≡ to_come before (as_chunk (next_piece before len t) ∷ items))
     → after.idle ≡ true → after.piece ≡ mid.piece → after.latest ≡ mid.latest → DrawsCuts frame old mid new after → DrawsPiece frame old before len t new after
 draws-taken frame old new before mid after len t ok at piece latest takes idle same_piece same_latest cuts means behind heard next waits plan =
     let going = goes-on before len t ok in
     let stop : before.piece.span.stop ≡ heard.position = waits.stop going in
-    let chunk : as_chunk (next_piece before len t) ≡ piece_behind heard len t = ap (λ start. as_chunk (record { span = record { start = start; stop = start + len }; instant = t })) stop in
+    let chunk : as_chunk (next_piece before len t) ≡ piece_behind heard len t =
+    ap (λ start. as_chunk (record { span = record { start = start; stop = start + len }; instant = t })) stop in
     let mid_stop : mid.piece.span.stop ≡ heard.position + len = ap (λ piece. piece.span.stop) piece ∙ ap (λ start. start + len) stop in
     let after_stop : after.piece.span.stop ≡ heard.position + len = ap (λ piece. piece.span.stop) same_piece ∙ mid_stop in (
       record {
@@ -138,8 +148,10 @@ draws-taken frame old new before mid after len t ok at piece latest takes idle s
         due = plan.due;
         drawn = plan.drawn;
         counted = plan.counted ∙ sym at;
-        tables = λ items stream. ap (λ items. plan.due ++ table items) (takes items ∙ ap (λ piece. to_come before (piece ∷ items)) chunk) ∙ plan.tables (piece_behind heard len t ∷ items) stream;
-        endings = λ items stream. ap ending (takes items ∙ ap (λ piece. to_come before (piece ∷ items)) chunk) ∙ plan.endings (piece_behind heard len t ∷ items) stream;
+        tables = λ items stream. ap (λ items. plan.due ++ table items) (takes items ∙ ap (λ piece. to_come before (piece ∷ items)) chunk)
+            ∙ plan.tables (piece_behind heard len t ∷ items) stream;
+        endings = λ items stream. ap ending (takes items ∙ ap (λ piece. to_come before (piece ∷ items)) chunk)
+            ∙ plan.endings (piece_behind heard len t ∷ items) stream;
       }),
     )
 
@@ -178,7 +190,8 @@ final-ending (ClosedAt t) = refl
 final-ending (ResetAt t) = refl
 
 -- the link ends behind some items: all that was due is drawn
-pub plan-whole : (frame : Frame) (means behind : List Item → List Item) (planned : Strand) (runner : RunnerView) (items : List Item) (last : Ending) → IsStream (behind items)
+pub plan-whole : (frame : Frame) (means behind : List Item → List Item) (planned : Strand) (runner : RunnerView) (items : List Item) (last : Ending)
+    → IsStream (behind items)
     → to_come runner items ≡ final_of last ∷ [] → DrawsPlan frame means behind planned runner
     → IsStrand frame (table (means (behind items))) planned × (last ≡ ending (means (behind items)))
 plan-whole frame means behind planned runner items last stream only plan =

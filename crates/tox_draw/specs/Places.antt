@@ -1,5 +1,6 @@
 -- Where the room between two lines is greatest.
-use Rattle.std.specs.Prelude.{ℕ, ◌+◌, ◌*◌, ◌/◌, ◌-◌, ◌==◌, List, length, take, drop, map, fold, max, position, slice_index, nat_lt, Option, Some, None, unwrap_or, if◌then◌else◌}
+use Rattle.std.specs.Prelude.{ℕ, ◌+◌, ◌*◌, ◌/◌, ◌-◌, ◌==◌, List, length, take, drop, map, fold, max, position, slice_index, nat_lt, Option, Some, None}
+use Rattle.std.specs.Prelude.{unwrap_or, if◌then◌else◌}
 use Rattle.std.specs.List.{take_while, zip}
 use Rattle.tox_draw.specs.declared.place.Point.{Point}
 

@@ -16,19 +16,22 @@ from-next earlier toxics i toxic here =
     ∙ ap (λ (t : InlineToxic). typed_behind earlier t >>= (λ next. typed_toxics (earlier ++ next ∷ []) (drop (i + 1) toxics))) (sym here.is)
 
 -- it was read
-pub typed_toxics-more : (earlier : List NumberedToxic) (toxics : List InlineToxic) (i : ℕ) (toxic : InlineToxic) (next : NumberedToxic) → IsAt toxics i toxic → Ok next ≡ typed_behind earlier toxic
+pub typed_toxics-more : (earlier : List NumberedToxic) (toxics : List InlineToxic) (i : ℕ) (toxic : InlineToxic) (next : NumberedToxic) → IsAt toxics i toxic
+    → Ok next ≡ typed_behind earlier toxic
     → typed_toxics earlier (drop i toxics) ≡ typed_toxics (earlier ++ next ∷ []) (drop (i + 1) toxics)
 typed_toxics-more earlier toxics i toxic next here is =
     from-next earlier toxics i toxic here
     ∙ ap (λ (r : Result NumberedToxic ToxicsFault). r >>= (λ n. typed_toxics (earlier ++ n ∷ []) (drop (i + 1) toxics))) (sym is)
 
 -- it was refused
-pub typed_toxics-refused : (earlier : List NumberedToxic) (toxics : List InlineToxic) (i : ℕ) (toxic : InlineToxic) (fault : ToxicsFault) → IsAt toxics i toxic → Err fault ≡ typed_behind earlier toxic
+pub typed_toxics-refused : (earlier : List NumberedToxic) (toxics : List InlineToxic) (i : ℕ) (toxic : InlineToxic) (fault : ToxicsFault) → IsAt toxics i toxic
+    → Err fault ≡ typed_behind earlier toxic
     → typed_toxics earlier (drop i toxics) ≡ Err fault
 typed_toxics-refused earlier toxics i toxic fault here is =
     from-next earlier toxics i toxic here
     ∙ ap (λ (r : Result NumberedToxic ToxicsFault). r >>= (λ n. typed_toxics (earlier ++ n ∷ []) (drop (i + 1) toxics))) (sym is)
 
 -- none is left
-pub typed_toxics-all : (earlier : List NumberedToxic) (toxics : List InlineToxic) (i : ℕ) → length toxics ≤ i → typed_toxics earlier (drop i toxics) ≡ Ok earlier
+pub typed_toxics-all : (earlier : List NumberedToxic) (toxics : List InlineToxic) (i : ℕ) → length toxics ≤ i
+    → typed_toxics earlier (drop i toxics) ≡ Ok earlier
 typed_toxics-all earlier toxics i past = ap (typed_toxics earlier) (drop_all i toxics past)

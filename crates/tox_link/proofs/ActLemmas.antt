@@ -1,5 +1,6 @@
 -- What a link core answers, by what is left.
-use Rattle.std.proofs.Common.{◌≡◌, ◌≢◌, ℕ, ◌<◌, ◌≤◌, true, List, [], ◌∷◌, ◌++◌, length, append_assoc, Some, None, refl, ap, ◌∙◌, sym, subst, arith, if◌then◌else◌}
+use Rattle.std.proofs.Common.{◌≡◌, ◌≢◌, ℕ, ◌<◌, ◌≤◌, true, List, [], ◌∷◌, ◌++◌, length, append_assoc, Some, None, refl, ap, ◌∙◌, sym, subst, arith}
+use Rattle.std.proofs.Common.{if◌then◌else◌}
 use Rattle.std.specs.Prelude.{IsSome, slice_get}
 use Rattle.tox_time.specs.declared.streams.item.Item.{Item}
 use Rattle.tox_time.specs.declared.streams.item.Item.TheVariants.{Closed, Quiet}
@@ -13,7 +14,8 @@ use Rattle.tox_plan.specs.RunnerView.{to_come, found_chunk, known_ending}
 use Rattle.tox_plan.specs.Unended.{IsBeforeDeadline, IsOpenAt, IsUnended}
 use Rattle.tox_plan.proofs.RunnerOutput.{final-no_chunk, no_chunk-table}
 use Rattle.tox_link.specs.declared.link_core.waiting.WaitingPiece.{WaitingPiece}
-use Rattle.tox_link.specs.link_core.Core.{CoreView, KeepsCore, Looked, IsEmptied, Settled, remaining_output, arrivals_from, end_or, next_instant, core_ending, ending_behind, core_deadline}
+use Rattle.tox_link.specs.link_core.Core.{CoreView, KeepsCore, Looked, IsEmptied, Settled, remaining_output, arrivals_from, end_or, next_instant, core_ending}
+use Rattle.tox_link.specs.link_core.Core.{ending_behind, core_deadline}
 use Rattle.tox_link.specs.link_core.CoreKept.{IsCore}
 use Rattle.tox_link.proofs.Looks.{same-of}
 
@@ -27,10 +29,12 @@ output-emptied core emptied none items =
 -- brings no slice by itself
 pub emptied-instant : (core : CoreView) → IsEmptied core → core.end ≡ None → next_instant (remaining_output core (Quiet ∷ [])) ≡ None
 emptied-instant core emptied none =
-    ap next_instant (output-emptied core emptied none (Quiet ∷ [])) ∙ ap (λ ts. slice_get ts 0) (no_chunk-table (to_come core.runner (Quiet ∷ [])) emptied.drained.none)
+    ap next_instant (output-emptied core emptied none (Quiet ∷ [])) ∙ ap (λ ts. slice_get ts 0)
+    (no_chunk-table (to_come core.runner (Quiet ∷ [])) emptied.drained.none)
 
 -- so it hasn't ended while its runner hasn't
-pub emptied-unended : (core : CoreView) (now : ℕ) → IsEmptied core → core.end ≡ None → IsUnended (ops_of core.runner.cursors) (to_come core.runner) now → IsUnended (ops_of core.runner.cursors) (remaining_output core) now
+pub emptied-unended : (core : CoreView) (now : ℕ) → IsEmptied core → core.end ≡ None → IsUnended (ops_of core.runner.cursors) (to_come core.runner) now
+    → IsUnended (ops_of core.runner.cursors) (remaining_output core) now
 emptied-unended core now emptied none unended = record {
   quiet = subst (λ items. IsOpenAt now (ending items)) (sym (output-emptied core emptied none (Quiet ∷ []))) unended.quiet;
   closed = λ closes. subst (λ items. ending items ≢ StillOpen) (sym (output-emptied core emptied none (Closed now ∷ []))) (unended.closed closes);
@@ -53,8 +57,10 @@ unknown-runner core unknown = by core.waiting
     by (piece ∷ pieces) = refl
 
 -- an emptied core before its deadline stays as it is, while its source goes on and its runner knows no ending
-pub settled-still : (core : CoreView) (now : ℕ) → IsCore core → IsEmptied core → core.end ≡ None → (core.runner.idle ≡ true → core.runner.finished ≡ true → ⊥) → IsBeforeDeadline now (core_deadline core)
-    → (core.runner.idle ≡ true → (t : ℕ) → IsBeforeDeadline t (core_deadline core) → IsUnended (ops_of core.runner.cursors) (to_come core.runner) t) → Settled core core now
+pub settled-still : (core : CoreView) (now : ℕ) → IsCore core → IsEmptied core → core.end ≡ None → (core.runner.idle ≡ true → core.runner.finished ≡ true → ⊥)
+    → IsBeforeDeadline now (core_deadline core)
+    → (core.runner.idle ≡ true → (t : ℕ) → IsBeforeDeadline t (core_deadline core) → IsUnended (ops_of core.runner.cursors) (to_come core.runner) t)
+    → Settled core core now
 settled-still core now invariant emptied none going before unended = record {
   leaves = record { output = λ position since items later stream. same-of _ _ refl; position = refl };
   emptied = emptied;
@@ -89,7 +95,8 @@ module _ (core : CoreView) (last : Ending) where
     quiet-only items = output-emptied after_quiet quiet-emptied none items
 
     pub settled-quiet : (now d : ℕ) → core_deadline core ≡ Some d → d ≤ now
-        → ((e position since : ℕ) (items : List Item) → deadline_of (ops_of core.runner.cursors) ≡ Some e → e ≤ since → IsStreamFrom position since items → to_come core.runner items ≡ final_of last ∷ [])
+        → ((e position since : ℕ) (items : List Item) → deadline_of (ops_of core.runner.cursors) ≡ Some e → e ≤ since → IsStreamFrom position since items
+        → to_come core.runner items ≡ final_of last ∷ [])
         → Settled core after_quiet now
     settled-quiet now d is passed same = record {
       leaves = record {
@@ -112,7 +119,8 @@ module _ (core : CoreView) (last : Ending) where
     }
 
 -- an answer after a look keeps what both keep
-pub keeps-after : (core middle new : CoreView) (now : ℕ) → Looked (record core { latest = now }) middle → ((last : Ending) → core_ending core ≡ Some last → core_ending middle ≡ Some last)
+pub keeps-after : (core middle new : CoreView) (now : ℕ) → Looked (record core { latest = now }) middle
+    → ((last : Ending) → core_ending core ≡ Some last → core_ending middle ≡ Some last)
     → KeepsCore middle new → KeepsCore core new
 keeps-after core middle new now looked known kept = record {
   drawing = kept.drawing ∙ looked.drawing;

@@ -1,5 +1,6 @@
 -- A link core before and after a piece or the source's end.
-use Rattle.std.proofs.Common.{◌≡◌, ℕ, ◌+◌, ◌<◌, ◌≤◌, ◌^◌, true, false, List, [], ◌∷◌, ◌++◌, length-append, Option, Some, None, refl, ap, ◌∙◌, sym, subst, arith, ◌⊎◌, inl, inr}
+use Rattle.std.proofs.Common.{◌≡◌, ℕ, ◌+◌, ◌<◌, ◌≤◌, ◌^◌, true, false, List, [], ◌∷◌, ◌++◌, length-append, Option, Some, None, refl, ap, ◌∙◌, sym, subst, arith}
+use Rattle.std.proofs.Common.{◌⊎◌, inl, inr}
 use Rattle.std.specs.Prelude.{IsSome, IfSome}
 use Rattle.tox_time.specs.declared.streams.slice.Slice.{Slice}
 use Rattle.tox_time.specs.declared.streams.item.Item.{Item}
@@ -15,11 +16,20 @@ no_end core invariant running = by core.end refl
   where
     by : (end : Option ℕ) → core.end ≡ end → core.end ≡ None
     by None is = is
-    by (Some t) is = absurd (let ended : core.ended ≡ true = invariant.ended (subst IsSome (sym is) refl) in let both : true ≡ false = sym ended ∙ running in cc)
+    by (Some t) is = absurd (let ended : core.ended ≡ true = invariant.ended (subst IsSome (sym is) refl) in let both : true ≡ false = sym ended
+        ∙ running in cc)
 
-found-more : (found : Option Slice) (runner : RunnerView) (bytes more : ℕ) → bytes ≤ more → IfSome found (IsFoundSlice runner bytes) → IfSome found (IsFoundSlice runner more)
+found-more : (found : Option Slice) (runner : RunnerView) (bytes more : ℕ) → bytes ≤ more → IfSome found (IsFoundSlice runner bytes)
+    → IfSome found (IsFoundSlice runner more)
 found-more None runner bytes more below is = tt
-found-more (Some slice) runner bytes more below is = record { busy = is.busy; stands = is.stands; within = is.within; arrived = omega (arith, is.arrived, below); apart = is.apart }
+found-more (Some slice) runner bytes more below is = record {
+  busy = is.busy;
+  stands = is.stands;
+  within = is.within;
+  arrived =
+      omega (arith, is.arrived, below);
+  apart = is.apart;
+}
 
 -- a runner that is over gives the same whatever comes
 pub over-same : (runner : RunnerView) → IsOver runner → (xs ys : List Item) → to_come runner xs ≡ to_come runner ys
@@ -42,7 +52,8 @@ module _ (core : CoreView) (len instant : ℕ) where
     timely : core.latest ≤ instant → 0 < len → AreTimely core.runner.latest (core.waiting ++ new_piece ∷ []) (arrived_by core.end instant)
     timely later some =
         let none : core.end ≡ None = no_end core invariant running in
-        let before : AreTimely core.runner.latest core.waiting core.latest = subst (λ end. AreTimely core.runner.latest core.waiting (arrived_by end core.latest)) none invariant.timely in
+        let before : AreTimely core.runner.latest core.waiting core.latest =
+        subst (λ end. AreTimely core.runner.latest core.waiting (arrived_by end core.latest)) none invariant.timely in
         subst (λ end. AreTimely core.runner.latest (core.waiting ++ new_piece ∷ []) (arrived_by end instant)) (sym none)
         (timely-append core.runner.latest core.latest core.waiting new_piece before later some)
 

@@ -1,5 +1,6 @@
 -- How many pieces of a log wait, beside those that a core keeps.
-use Rattle.std.proofs.Common.{◌≡◌, ℕ, ◌+◌, ◌<◌, ◌≤◌, Bool, true, false, List, [], ◌∷◌, ◌++◌, length, map, refl, ap, sym, ◌∙◌, subst, append_assoc, append-nil, arith}
+use Rattle.std.proofs.Common.{◌≡◌, ℕ, ◌+◌, ◌<◌, ◌≤◌, Bool, true, false, List, [], ◌∷◌, ◌++◌, length, map, refl, ap, sym, ◌∙◌, subst, append_assoc, append-nil}
+use Rattle.std.proofs.Common.{arith}
 use Rattle.std.specs.Prelude.{nat_lt, if◌then◌else◌}
 use Rattle.std.specs.List.{sum}
 use Rattle.std.proofs.lemmas.Bool.{le-ltb, lt-ltb}
@@ -28,7 +29,8 @@ ends_behind-most : (position start : ℕ) (lens : List ℕ) → ends_behind posi
 ends_behind-most position start [] = omega arith
 ends_behind-most position start (len ∷ lens) = by (nat_lt position (start + len)) (ends_behind-most position (start + len) lens)
   where
-    by : (behind : Bool) → ends_behind position (start + len) lens ≤ length lens → (if behind then 1 else 0) + ends_behind position (start + len) lens ≤ length (len ∷ lens)
+    by : (behind : Bool) → ends_behind position (start + len) lens ≤ length lens
+        → (if behind then 1 else 0) + ends_behind position (start + len) lens ≤ length (len ∷ lens)
     by true rest = omega (arith, rest)
     by false rest = omega (arith, rest)
 
@@ -50,9 +52,11 @@ ends_behind-all position start (len ∷ lens) before =
     rw one (omega (arith, rest))
 
 -- and the one that holds it
-ends_behind-from : (position start : ℕ) (given : List ℕ) (first : ℕ) (kept : List ℕ) → position < start + sum given + first → length (first ∷ kept) ≤ ends_behind position start (given ++ first ∷ kept)
+ends_behind-from : (position start : ℕ) (given : List ℕ) (first : ℕ) (kept : List ℕ) → position < start + sum given + first
+    → length (first ∷ kept) ≤ ends_behind position start (given ++ first ∷ kept)
 ends_behind-from position start [] first kept before =
-    let rest : (position < start + first) → length kept ≤ ends_behind position (start + first) kept = (λ before. ends_behind-all position (start + first) kept before) in
+    let rest : (position < start + first) → length kept ≤ ends_behind position (start + first) kept =
+    (λ before. ends_behind-all position (start + first) kept before) in
     let one : nat_lt position (start + first) ≡ true = lt-ltb position (start + first) (omega (arith, before)) in
     rw one (let all = rest (omega (arith, before)) in omega (arith, all))
 ends_behind-from position start (len ∷ given) first kept before =
@@ -72,31 +76,40 @@ kept-lens core = by core.runner.idle
     waits : length (map (λ (piece : WaitingPiece). piece.len) core.waiting) ≡ length core.waiting
     waits = length-map core.waiting (λ piece. piece.len)
 
-    by : (idle : Bool) → length ((if idle then [] else span_len core.runner.piece.span ∷ []) ++ map (λ (piece : WaitingPiece). piece.len) core.waiting) ≡ length core.waiting + (if idle then 0 else 1)
+    by : (idle : Bool) → length ((if idle then [] else span_len core.runner.piece.span ∷ []) ++ map (λ (piece : WaitingPiece). piece.len) core.waiting)
+        ≡ length core.waiting + (if idle then 0 else 1)
     by true = omega (arith, waits)
     by false = omega (arith, waits)
 
 -- no more wait than a core keeps
-pub few-waiting : (core : CoreView) (log : List LinkEvent) → KeepsLast core log → IsGapless 0 (said log) (core_position core) → waiting_pieces log ≤ kept_count core
+pub few-waiting : (core : CoreView) (log : List LinkEvent) → KeepsLast core log → IsGapless 0 (said log) (core_position core)
+    → waiting_pieces log ≤ kept_count core
 few-waiting core log keeps gapless =
     let said_to = gapless-bytes 0 (said log) (core_position core) gapless in
     let count = kept-lens core in
-    let few = ends_behind-few (length (slices_table (said log))) 0 keeps.given_up (kept_lens core) (let start = keeps.start in let before = keeps.before in omega (arith, start, before, said_to)) in
+    let few = ends_behind-few (length (slices_table (said log))) 0 keeps.given_up (kept_lens core)
+    (let start = keeps.start in let before = keeps.before in omega (arith, start, before, said_to)) in
     subst (λ lens. ends_behind (length (slices_table (said log))) 0 lens ≤ kept_count core) (sym keeps.lens) (omega (arith, few, count))
 
 -- all of the kept ones do where the runner's piece ends behind it
-kept-behind : (position : ℕ) (given : List ℕ) (idle : Bool) (piece : Span) (waiting : List WaitingPiece) → position < piece.stop → sum given ≡ (if idle then piece.stop else piece.start)
-    → length ((if idle then [] else span_len piece ∷ []) ++ map (λ piece. piece.len) waiting) ≤ ends_behind position 0 (given ++ ((if idle then [] else span_len piece ∷ []) ++ map (λ piece. piece.len) waiting))
+kept-behind : (position : ℕ) (given : List ℕ) (idle : Bool) (piece : Span) (waiting : List WaitingPiece) → position < piece.stop
+    → sum given ≡ (if idle then piece.stop else piece.start)
+    → length ((if idle then [] else span_len piece ∷ []) ++ map (λ piece. piece.len) waiting)
+    ≤ ends_behind position 0 (given ++ ((if idle then [] else span_len piece ∷ []) ++ map (λ piece. piece.len) waiting))
 kept-behind position given true piece [] within start = omega arith
-kept-behind position given true piece (first ∷ waiting) within start = ends_behind-from position 0 given first.len (map (λ piece. piece.len) waiting) (omega (arith, within, start))
-kept-behind position given false piece waiting within start = ends_behind-from position 0 given (span_len piece) (map (λ piece. piece.len) waiting) (omega (arith, within, start))
+kept-behind position given true piece (first ∷ waiting) within start = ends_behind-from position 0 given first.len (map (λ piece. piece.len) waiting)
+    (omega (arith, within, start))
+kept-behind position given false piece waiting within start = ends_behind-from position 0 given (span_len piece) (map (λ piece. piece.len) waiting)
+    (omega (arith, within, start))
 
 -- nor fewer, where the runner's piece ends behind what was said
-pub many-waiting : (core : CoreView) (log : List LinkEvent) (said_to : ℕ) → KeepsLast core log → IsGapless 0 (said log) said_to → said_to < core.runner.piece.span.stop → kept_count core ≤ waiting_pieces log
+pub many-waiting : (core : CoreView) (log : List LinkEvent) (said_to : ℕ) → KeepsLast core log → IsGapless 0 (said log) said_to
+    → said_to < core.runner.piece.span.stop → kept_count core ≤ waiting_pieces log
 many-waiting core log said_to keeps gapless within =
     let said_is = gapless-bytes 0 (said log) said_to gapless in
     let count = kept-lens core in
-    let many = kept-behind (length (slices_table (said log))) keeps.given_up core.runner.idle core.runner.piece.span core.waiting (omega (arith, said_is, within)) keeps.start in
+    let many = kept-behind (length (slices_table (said log))) keeps.given_up core.runner.idle core.runner.piece.span core.waiting
+    (omega (arith, said_is, within)) keeps.start in
     subst (λ lens. kept_count core ≤ ends_behind (length (slices_table (said log))) 0 lens) (sym keeps.lens) (omega (arith, many, count))
 
 -- nothing is heard and nothing kept
@@ -117,13 +130,16 @@ pub keeps-still : (old new : CoreView) (log : List LinkEvent) → GivesUp old ne
 keeps-still old new log gives keeps = subst (KeepsLast new) (append-nil log) (keeps-after old new log [] refl gives keeps)
 
 -- a piece is heard and kept behind the others
-pub keeps-piece : (old new : CoreView) (log : List LinkEvent) (len instant : ℕ) → new.runner ≡ old.runner → new.found ≡ old.found → new.waiting ≡ old.waiting ++ record { len = len; instant = instant } ∷ []
+pub keeps-piece : (old new : CoreView) (log : List LinkEvent) (len instant : ℕ) → new.runner ≡ old.runner → new.found ≡ old.found
+    → new.waiting ≡ old.waiting ++ record { len = len; instant = instant } ∷ []
     → KeepsLast old log → KeepsLast new (log ++ Piece len instant ∷ [])
 keeps-piece old new log len instant runner found waiting keeps = record {
   given_up = keeps.given_up;
-  lens = heard_lens-append log (Piece len instant ∷ []) ∙ ap (λ lens. lens ++ len ∷ []) keeps.lens ∙ append_assoc keeps.given_up (kept_lens old) (len ∷ []) ∙ ap (λ lens. keeps.given_up ++ lens) (sym more);
+  lens = heard_lens-append log (Piece len instant ∷ []) ∙ ap (λ lens. lens ++ len ∷ []) keeps.lens ∙ append_assoc keeps.given_up (kept_lens old) (len ∷ [])
+      ∙ ap (λ lens. keeps.given_up ++ lens) (sym more);
   start = keeps.start ∙ ap (λ (runner : RunnerView). if runner.idle then runner.piece.span.stop else runner.piece.span.start) (sym runner);
-  before = subst (λ start. start ≤ core_position new) (ap (λ (runner : RunnerView). if runner.idle then runner.piece.span.stop else runner.piece.span.start) (sym runner)) (subst (λ position. kept_start old ≤ position) place keeps.before);
+  before = subst (λ start. start ≤ core_position new) (ap (λ (runner : RunnerView). if runner.idle then runner.piece.span.stop else runner.piece.span.start)
+      (sym runner)) (subst (λ position. kept_start old ≤ position) place keeps.before);
 }
   where
     first : RunnerView → List ℕ
@@ -133,14 +149,20 @@ keeps-piece old new log len instant runner found waiting keeps = record {
     place = ap (λ found. next_start found old.runner.position) (sym found) ∙ ap (λ (runner : RunnerView). next_start new.found runner.position) (sym runner)
 
     more : kept_lens new ≡ kept_lens old ++ len ∷ []
-    more = ap (λ runner. first runner ++ map (λ piece. piece.len) new.waiting) runner ∙ ap (λ waiting. first old.runner ++ map (λ (piece : WaitingPiece). piece.len) waiting) waiting
-        ∙ ap (λ lens. first old.runner ++ lens) (map-append (λ (piece : WaitingPiece). piece.len) old.waiting _) ∙ sym (append_assoc (first old.runner) (map (λ piece. piece.len) old.waiting) (len ∷ []))
+    more = ap (λ runner. first runner ++ map (λ piece. piece.len) new.waiting) runner
+        ∙ ap (λ waiting. first old.runner ++ map (λ (piece : WaitingPiece). piece.len) waiting) waiting
+        ∙ ap (λ lens. first old.runner ++ lens) (map-append (λ (piece : WaitingPiece). piece.len) old.waiting _)
+        ∙ sym (append_assoc (first old.runner) (map (λ piece. piece.len) old.waiting) (len ∷ []))
 
 -- where events are heard behind others
-pub shallow-append : (before log more : List LinkEvent) → IsShallowBehind before log → IsShallowBehind (before ++ log) more → IsShallowBehind before (log ++ more)
+pub shallow-append : (before log more : List LinkEvent) → IsShallowBehind before log → IsShallowBehind (before ++ log) more
+    → IsShallowBehind before (log ++ more)
 shallow-append before [] more first next = subst (λ before. IsShallowBehind before more) (append-nil before) next
-shallow-append before (event ∷ log) more first next =
-    (first.0, shallow-append (before ++ event ∷ []) log more first.1 (subst (λ before. IsShallowBehind before more) (sym (append_assoc before (event ∷ []) log)) next))
+shallow-append before (event ∷ log) more first next = (
+  first.0,
+  shallow-append (before ++ event ∷ []) log more first.1 (subst (λ before. IsShallowBehind before more) (sym (append_assoc before (event ∷ []) log))
+      next),
+)
 
 pub shallow-front : (before log more : List LinkEvent) → IsShallowBehind before (log ++ more) → IsShallowBehind before log
 shallow-front before [] more all = tt

@@ -1,5 +1,6 @@
 -- A direction that is driven: steps one after the other.
-use Rattle.std.proofs.Common.{◌≡◌, ℕ, ◌+◌, ◌≤◌, inl, inr, ◌⊎◌, Bool, false, true, List, [], ◌∷◌, ◌++◌, length, length-append, take, drop, Option, Some, None, refl, ap, ◌∙◌, sym, subst, append_assoc, append-nil, arith}
+use Rattle.std.proofs.Common.{◌≡◌, ℕ, ◌+◌, ◌≤◌, inl, inr, ◌⊎◌, Bool, false, true, List, [], ◌∷◌, ◌++◌, length, length-append, take, drop, Option, Some, None}
+use Rattle.std.proofs.Common.{refl, ap, ◌∙◌, sym, subst, append_assoc, append-nil, arith}
 use Rattle.std.specs.Io.KnownBytes.{append_known, prepend_known}
 use Rattle.std.proofs.lemmas.List.{take-append-drop}
 use Rattle.std.specs.Prelude.{is_some, IfSome, slice_get, ◌||◌, Result, Ok, Err, nat_le, if◌then◌else◌}
@@ -60,28 +61,35 @@ left-false true c none = cc
 left-false false c none = refl
 
 -- what was noted is faithful, where what was still to be noted of the slice is so
-noted-faithful : (means : List Item → List Item) (reported : ℕ → Type 0) (log more : List LinkEvent) (old new : Option Unwritten) → more ++ unsaid new ≡ unsaid old → IsFaithful means reported log → IsFaithful means reported (log ++ unsaid old)
+noted-faithful : (means : List Item → List Item) (reported : ℕ → Type 0) (log more : List LinkEvent) (old new : Option Unwritten)
+    → more ++ unsaid new ≡ unsaid old → IsFaithful means reported log → IsFaithful means reported (log ++ unsaid old)
     → IsFaithful means reported (log ++ more)
 noted-faithful means reported log more old None same before after = subst (λ said. IsFaithful means reported (log ++ said)) (sym same ∙ append-nil more) after
 noted-faithful means reported log more old (Some unwritten) same before after =
-    subst (IsFaithful means reported) (sym (append-nil log) ∙ ap (λ more. log ++ more) (sym (alone more (Wrote unwritten.slice unwritten.reading) old same))) before
+    subst (IsFaithful means reported) (sym (append-nil log) ∙ ap (λ more. log ++ more) (sym (alone more (Wrote unwritten.slice unwritten.reading) old same)))
+    before
 
 -- a slice is written on
-pub writes-follow : (reported : ℕ → Type 0) (old new : PolledLink) (written written_after : Option (List ℕ)) (more : List LinkEvent) → WritesOn old written more new written_after → Drives reported old written [] more new written_after
+pub writes-follow : (reported : ℕ → Type 0) (old new : PolledLink) (written written_after : Option (List ℕ)) (more : List LinkEvent)
+    → WritesOn old written more new written_after → Drives reported old written [] more new written_after
 writes-follow reported old new written written_after more on means log came before follows =
     let same : came ++ [] ≡ came = append-nil came in
-    let none : has_source_end more ≡ false = left-false (has_source_end more) (has_source_end (unsaid new.unwritten)) (sym (has_source_end-append more (unsaid new.unwritten)) ∙ ap has_source_end on.noted ∙ unsaid-open old.unwritten) in
+    let none : has_source_end more ≡ false = left-false (has_source_end more) (has_source_end (unsaid new.unwritten))
+    (sym (has_source_end-append more (unsaid new.unwritten)) ∙ ap has_source_end on.noted ∙ unsaid-open old.unwritten) in
     let bytes : new.core.bytes ≡ old.core.bytes = ap (λ (core : CoreView). core.bytes) on.core in
     record {
-      carried = subst (Carried means reported new.core) (ap (λ said. log ++ said) (sym on.noted) ∙ sym (append_assoc log more (unsaid new.unwritten))) (subst (λ core. Carried means reported core (log ++ unsaid old.unwritten)) (sym on.core) follows.carried);
+      carried = subst (Carried means reported new.core) (ap (λ said. log ++ said) (sym on.noted) ∙ sym (append_assoc log more (unsaid new.unwritten)))
+          (subst (λ core. Carried means reported core (log ++ unsaid old.unwritten)) (sym on.core) follows.carried);
       faithful = noted-faithful means reported log more old.unwritten new.unwritten on.noted follows.faithful follows.carried.faithful;
       closed = end-same log more none ∙ follows.closed ∙ ap (λ source. is_some (read_end_of source)) (sym on.source);
       parts = subst (λ came. AreOf came new.window.held) (sym same) (on.parts came follows.parts);
       few = let long = ap length same in omega (arith, long, bytes, follows.few);
       live = λ unended none. bytes ∙ follows.live (sym on.ended ∙ unended) (ap core_ending (sym on.core) ∙ none) ∙ sym (ap length same);
-      unsent = subst (λ source. IfSome (read_end_of source) (λ end. IsUnsent end (take new.core.bytes (came ++ [])) (drop new.core.bytes (came ++ [])))) (sym on.source)
+      unsent = subst (λ source. IfSome (read_end_of source) (λ end. IsUnsent end (take new.core.bytes (came ++ [])) (drop new.core.bytes (came ++ []))))
+          (sym on.source)
           (subst (λ count. IfSome (read_end_of old.source) (λ end. IsUnsent end (take count (came ++ [])) (drop count (came ++ [])))) (sym bytes)
-          (subst (λ came. IfSome (read_end_of old.source) (λ end. IsUnsent end (take old.core.bytes came) (drop old.core.bytes came))) (sym same) follows.unsent));
+          (subst (λ came. IfSome (read_end_of old.source) (λ end. IsUnsent end (take old.core.bytes came) (drop old.core.bytes came))) (sym same)
+          follows.unsent));
       wrote = on.wrote came before follows.parts follows.wrote ∙ ap (λ came. append_known before (take new.written came)) (sym same);
     }
 
@@ -104,7 +112,8 @@ module _ (link : PolledLink) (core : CoreView) (now : ℕ) (held : IsHeld link) 
   at : link.written ≡ core_position link.core
   at = subst (λ slice. IsUpTo slice link.written (core_position link.core)) idle held.up_to
 
-  held-with : (unwritten : Option Unwritten) → core_position core ≤ core.bytes → IsUpTo unwritten link.written (core_position core) → IsHeld (record link { core = core; unwritten = unwritten })
+  held-with : (unwritten : Option Unwritten) → core_position core ≤ core.bytes → IsUpTo unwritten link.written (core_position core)
+      → IsHeld (record link { core = core; unwritten = unwritten })
   held-with unwritten within up_to = record {
     stop = held.stop ∙ sym kept.bytes;
     joined = held.joined;
@@ -136,22 +145,31 @@ module _ (link : PolledLink) (core : CoreView) (now : ℕ) (held : IsHeld link) 
   work-asked (End last) leaves = omega (arith, leaves.position)
 
   pub done-asked : (act : Act) → After link.core now act core → KeepsDone link (asked act)
-  done-asked act after = record { found = let found = work-asked act after in omega (arith, found); cuts = kept.cuts; written = omega arith; ended = omega arith }
+  done-asked act after = record {
+    found = let found = work-asked act after in omega (arith, found);
+    cuts = kept.cuts;
+    written = omega arith;
+    ended =
+        omega arith;
+  }
 
-  pub drives-asked : (reported : ℕ → Type 0) (act : Act) (known : Option (List ℕ)) → KeepsCarried reported link.core (noted_of act now) core → Drives reported link known [] [] (asked act) known
+  pub drives-asked : (reported : ℕ → Type 0) (act : Act) (known : Option (List ℕ)) → KeepsCarried reported link.core (noted_of act now) core
+      → Drives reported link known [] [] (asked act) known
   drives-asked reported act known keeps means log came before follows =
       let same : came ++ [] ≡ came = append-nil came in
       let none : log ++ [] ≡ log = append-nil log in
       record {
         carried = subst (λ logged. Carried means reported core (logged ++ unsaid (begun_by act now))) (sym none)
-            (subst (λ said. Carried means reported core (log ++ said)) (sym (unsaid-noted act now)) (keeps means log (bare means reported link.core link.unwritten log idle follows.carried)));
+            (subst (λ said. Carried means reported core (log ++ said)) (sym (unsaid-noted act now))
+            (keeps means log (bare means reported link.core link.unwritten log idle follows.carried)));
         faithful = subst (IsFaithful means reported) (sym none) follows.faithful;
         closed = ap has_source_end none ∙ follows.closed;
         parts = subst (λ came. AreOf came link.window.held) (sym same) follows.parts;
         few = let long = ap length same in omega (arith, long, kept.bytes, follows.few);
         live = λ unended none. kept.bytes ∙ follows.live unended (unknown-before link.core core kept none) ∙ sym (ap length same);
         unsent = subst (λ count. IfSome (read_end_of link.source) (λ end. IsUnsent end (take count (came ++ [])) (drop count (came ++ [])))) (sym kept.bytes)
-            (subst (λ came. IfSome (read_end_of link.source) (λ end. IsUnsent end (take link.core.bytes came) (drop link.core.bytes came))) (sym same) follows.unsent);
+            (subst (λ came. IfSome (read_end_of link.source) (λ end. IsUnsent end (take link.core.bytes came) (drop link.core.bytes came))) (sym same)
+            follows.unsent);
         wrote = follows.wrote ∙ ap (λ came. append_known before (take link.written came)) (sym same);
       }
 
@@ -175,14 +193,16 @@ drove-none reported link view = record {
   read = prepend-nil view.remaining;
   noted = events-none view.events;
   follows = λ means log came before follows.
-      subst (λ log. Follows means reported link log (came ++ []) before view.written) (sym (append-nil log)) (subst (λ came. Follows means reported link log came before view.written) (sym (append-nil came)) follows);
+      subst (λ log. Follows means reported link log (came ++ []) before view.written) (sym (append-nil log))
+      (subst (λ came. Follows means reported link log came before view.written) (sym (append-nil came)) follows);
   kept = record { found = omega arith; cuts = omega arith; written = omega arith; ended = omega arith };
   taken = omega arith;
   work = omega arith;
 }
 
 -- one drive after another
-pub drove-then : (reported : ℕ → Type 0) (first second : ℕ) (a b c : PolledLink) (before between after : EndsView) → Drove first reported a before b between → Drove second reported b between c after → Drove (first + second) reported a before c after
+pub drove-then : (reported : ℕ → Type 0) (first second : ℕ) (a b c : PolledLink) (before between after : EndsView) → Drove first reported a before b between
+    → Drove second reported b between c after → Drove (first + second) reported a before c after
 drove-then reported first second a b c before between after one two = record {
   bytes = one.bytes ++ two.bytes;
   more = one.more ++ two.more;
@@ -224,11 +244,19 @@ said-of_heard log None all = subst SaysHeard (append-nil log) all
 said-of_heard log (Some unwritten) all =
     let more = Wrote unwritten.slice unwritten.reading ∷ [] in
     let heard_is = heard_bytes-append log more in
-    let said_is = ap (λ slices. length (slices_table slices)) (said-append log more) ∙ ap length (slices_table-append (said log) (said more)) ∙ length-append (slices_table (said log)) (slices_table (said more)) in
-    record { few = omega (arith, heard_is, all.few); heard = omega (arith, heard_is, said_is, all.heard); shallow = shallow-front [] log _ all.shallow; small = small-front log _ all.small }
+    let said_is = ap (λ slices. length (slices_table slices)) (said-append log more) ∙ ap length (slices_table-append (said log) (said more))
+    ∙ length-append (slices_table (said log)) (slices_table (said more)) in
+    record {
+      few = omega (arith, heard_is, all.few);
+      heard = omega (arith, heard_is, said_is, all.heard);
+      shallow = shallow-front [] log _ all.shallow;
+      small =
+          small-front log _ all.small;
+    }
 
 -- a direction that broke off
-pub cut-follows : (means : List Item → List Item) (reported : ℕ → Type 0) (link : PolledLink) (log : List LinkEvent) (came : List ℕ) (before after : Option (List ℕ)) → IsHeld link → Follows means reported link log came before after
+pub cut-follows : (means : List Item → List Item) (reported : ℕ → Type 0) (link : PolledLink) (log : List LinkEvent) (came : List ℕ)
+    (before after : Option (List ℕ)) → IsHeld link → Follows means reported link log came before after
     → IsCutOff means reported link.written log
 cut-follows means reported link log came before after held follows =
     let within = said-within means reported link.core (log ++ unsaid link.unwritten) follows.carried in
@@ -243,36 +271,77 @@ cut-follows means reported link log came before after held follows =
     }
 
 -- it wrote the first bytes of those that came
-pub writes-came : (link : PolledLink) (given before after left : Option (List ℕ)) (came : List ℕ) → IsHeld link → link.core.bytes ≤ length came → given ≡ prepend_known came left → after ≡ append_known before (take link.written came)
+pub writes-came : (link : PolledLink) (given before after left : Option (List ℕ)) (came : List ℕ) → IsHeld link → link.core.bytes ≤ length came
+    → given ≡ prepend_known came left → after ≡ append_known before (take link.written came)
     → WritesFirst given before after came link.written
 writes-came link given before after left came held few gave wrote =
     let within = written-up_to link.unwritten link.written (core_position link.core) held.up_to in
     record { left = left; gave = gave; few = omega (arith, within, held.within, few); wrote = wrote }
 
 -- how the source ended, where the direction learnt of it in time
-pub hands-on : (source : Option ReadEnd) (given left : Option (List ℕ)) (taken : ℕ) (came : List ℕ) → given ≡ prepend_known came left → IfSome source (λ end. IsUnsent end (take taken came) (drop taken came))
+pub hands-on : (source : Option ReadEnd) (given left : Option (List ℕ)) (taken : ℕ) (came : List ℕ) → given ≡ prepend_known came left
+    → IfSome source (λ end. IsUnsent end (take taken came) (drop taken came))
     → IfSome source (λ end. HandsOn given (take taken came) end left)
 hands-on None given left taken came gave unsent = tt
-hands-on (Some end) given left taken came gave unsent = (drop taken came, gave ∙ ap (λ bytes. prepend_known bytes left) (sym (take-append-drop taken came)), unsent)
+hands-on (Some end) given left taken came gave unsent = (
+  drop taken came,
+  gave
+      ∙ ap (λ bytes. prepend_known bytes left) (sym (take-append-drop taken came)),
+  unsent,
+)
 
 -- the same drive from equal bytes, at as many steps or fewer
-pub drove-read : (least fewer : ℕ) (reported : ℕ → Type 0) (old new : PolledLink) (given again left before after : Option (List ℕ)) (events noted : Option (List LinkEvent)) → fewer ≤ least → given ≡ again
-    → Drove least reported old (record { remaining = again; written = before; events = events }) new (record { remaining = left; written = after; events = noted })
-    → Drove fewer reported old (record { remaining = given; written = before; events = events }) new (record { remaining = left; written = after; events = noted })
+pub drove-read : (least fewer : ℕ) (reported : ℕ → Type 0) (old new : PolledLink) (given again left before after : Option (List ℕ))
+    (events noted : Option (List LinkEvent)) → fewer ≤ least → given ≡ again
+    → Drove least reported old (record { remaining = again; written = before; events = events }) new
+    (record { remaining = left; written = after; events = noted })
+    → Drove fewer reported old (record { remaining = given; written = before; events = events }) new
+    (record { remaining = left; written = after; events = noted })
 drove-read least fewer reported old new given again left before after events noted few same drove =
-    record { bytes = drove.bytes; more = drove.more; read = same ∙ drove.read; noted = drove.noted; follows = drove.follows; kept = drove.kept; taken = drove.taken; work = omega (arith, few, drove.work) }
+    record {
+      bytes = drove.bytes;
+      more = drove.more;
+      read = same ∙ drove.read;
+      noted = drove.noted;
+      follows = drove.follows;
+      kept = drove.kept;
+      taken =
+          drove.taken;
+      work = omega (arith, few, drove.work);
+    }
 
-pub drove-less : (least fewer : ℕ) (reported : ℕ → Type 0) (old new : PolledLink) (before after : EndsView) → fewer ≤ least → Drove least reported old before new after → Drove fewer reported old before new after
+pub drove-less : (least fewer : ℕ) (reported : ℕ → Type 0) (old new : PolledLink) (before after : EndsView) → fewer ≤ least
+    → Drove least reported old before new after → Drove fewer reported old before new after
 drove-less least fewer reported old new before after few drove =
-    record { bytes = drove.bytes; more = drove.more; read = drove.read; noted = drove.noted; follows = drove.follows; kept = drove.kept; taken = drove.taken; work = omega (arith, few, drove.work) }
+    record {
+      bytes = drove.bytes;
+      more = drove.more;
+      read = drove.read;
+      noted = drove.noted;
+      follows = drove.follows;
+      kept = drove.kept;
+      taken = drove.taken;
+      work = omega (arith, few, drove.work);
+    }
 
 -- a drive that moved so much, or cut so often, took as many steps as one may take at most
-pub drove-enough : (steps : ℕ) (reported : ℕ → Type 0) (old new : PolledLink) (before after : EndsView) → (moved_of old + 131_072 ≤ moved_of new) ⊎ (old.core.runner.cuts + 4_096 ≤ new.core.runner.cuts) → Drove steps reported old before new after
+pub drove-enough : (steps : ℕ) (reported : ℕ → Type 0) (old new : PolledLink) (before after : EndsView)
+    → (moved_of old + 131_072 ≤ moved_of new) ⊎ (old.core.runner.cuts + 4_096 ≤ new.core.runner.cuts) → Drove steps reported old before new after
     → Drove 32 reported old before new after
 drove-enough steps reported old new before after enough drove =
-    record { bytes = drove.bytes; more = drove.more; read = drove.read; noted = drove.noted; follows = drove.follows; kept = drove.kept; taken = drove.taken; work = work enough }
+    record {
+      bytes = drove.bytes;
+      more = drove.more;
+      read = drove.read;
+      noted = drove.noted;
+      follows = drove.follows;
+      kept = drove.kept;
+      taken = drove.taken;
+      work = work enough;
+    }
   where
-    work : (moved_of old + 131_072 ≤ moved_of new) ⊎ (old.core.runner.cuts + 4_096 ≤ new.core.runner.cuts) → done_of old + 32 ≤ done_of new + length drove.bytes + length drove.more
+    work : (moved_of old + 131_072 ≤ moved_of new) ⊎ (old.core.runner.cuts + 4_096 ≤ new.core.runner.cuts)
+        → done_of old + 32 ≤ done_of new + length drove.bytes + length drove.more
     work (inl moved) = omega (arith, moved, drove.taken, drove.kept.found, drove.kept.cuts, drove.kept.written, drove.kept.ended)
     work (inr cut) = omega (arith, cut, drove.kept.found, drove.kept.cuts, drove.kept.written, drove.kept.ended)
 
@@ -289,9 +358,11 @@ move-one true (Err fault) same is = absurd (cc)
 move-one false result same is = absurd (cc)
 
 -- a slice is written on
-pub drove-writes : (least : ℕ) (reported : ℕ → Type 0) (old new : PolledLink) (left before after : Option (List ℕ)) (events noted : Option (List LinkEvent)) (more : List LinkEvent) → noted ≡ with_events events more → WritesOn old before more new after
+pub drove-writes : (least : ℕ) (reported : ℕ → Type 0) (old new : PolledLink) (left before after : Option (List ℕ)) (events noted : Option (List LinkEvent))
+    (more : List LinkEvent) → noted ≡ with_events events more → WritesOn old before more new after
     → old.written ≤ new.written → old.written + least ≤ new.written + length more
-    → Drove least reported old (record { remaining = left; written = before; events = events }) new (record { remaining = left; written = after; events = noted })
+    → Drove least reported old (record { remaining = left; written = before; events = events }) new
+    (record { remaining = left; written = after; events = noted })
 drove-writes least reported old new left before after events noted more said on forward work = record {
   bytes = [];
   more = more;
@@ -313,20 +384,26 @@ drove-writes least reported old new left before after events noted more said on 
 }
 
 -- the answer to a wait
-pub says-asked : (old core : CoreView) (now : ℕ) (act : Act) (until : Option ℕ) → Answered old core now act → act ≡ wait_act until → Says core now (wait_act until)
-says-asked old core now act None answered is = let same : Answered old core now WaitForInput = subst (Answered old core now) is answered in says-still old core now WaitForInput same same.output
-says-asked old core now act (Some t) answered is = let same : Answered old core now (WaitUntil t) = subst (Answered old core now) is answered in says-still old core now (WaitUntil t) same same.output.1
+pub says-asked : (old core : CoreView) (now : ℕ) (act : Act) (until : Option ℕ) → Answered old core now act → act ≡ wait_act until
+    → Says core now (wait_act until)
+says-asked old core now act None answered is = let same : Answered old core now WaitForInput = subst (Answered old core now) is answered in
+    says-still old core now WaitForInput same same.output
+says-asked old core now act (Some t) answered is = let same : Answered old core now (WaitUntil t) = subst (Answered old core now) is answered in
+    says-still old core now (WaitUntil t) same same.output.1
 
 -- the core was asked
-pub drove-asked : (reported : ℕ → Type 0) (link new : PolledLink) (core : CoreView) (now : ℕ) (act : Act) (left known : Option (List ℕ)) (events : Option (List LinkEvent)) → IsHeld link → link.unwritten ≡ None → Answered link.core core now act
+pub drove-asked : (reported : ℕ → Type 0) (link new : PolledLink) (core : CoreView) (now : ℕ) (act : Act) (left known : Option (List ℕ))
+    (events : Option (List LinkEvent)) → IsHeld link → link.unwritten ≡ None → Answered link.core core now act
     → KeepsCarried reported link.core (noted_of act now) core → new ≡ record link { core = core; unwritten = begun_by act now }
-    → Drove (steps_of_act act) reported link (record { remaining = left; written = known; events = events }) new (record { remaining = left; written = known; events = events })
+    → Drove (steps_of_act act) reported link (record { remaining = left; written = known; events = events }) new
+    (record { remaining = left; written = known; events = events })
 drove-asked reported link new core now act left known events held idle answered keeps same = record {
   bytes = [];
   more = [];
   read = prepend-nil left;
   noted = events-none events;
-  follows = subst (λ (new : PolledLink). Drives reported link known [] [] new known) (sym same) (drives-asked link core now held idle answered.kept reported act known keeps);
+  follows = subst (λ (new : PolledLink). Drives reported link known [] [] new known) (sym same)
+      (drives-asked link core now held idle answered.kept reported act known keeps);
   kept = subst (KeepsDone link) (sym same) (done-asked link core now held idle answered.kept act answered.output);
   taken = let bytes = ap (λ (link : PolledLink). link.core.bytes) same in omega (arith, bytes, answered.kept.bytes);
   work =
@@ -347,35 +424,49 @@ none-begun (End last) now never = refl
 
 -- nothing happened to the core
 keeps-same : (reported : ℕ → Type 0) (old new : CoreView) → new ≡ old → KeepsCarried reported old [] new
-keeps-same reported old new same means log carried = subst (Carried means reported new) (sym (append-nil log)) (subst (λ core. Carried means reported core log) (sym same) carried)
+keeps-same reported old new same means log carried = subst (Carried means reported new) (sym (append-nil log))
+    (subst (λ core. Carried means reported core log) (sym same) carried)
 
 -- input came, and nothing was written
-pub drove-took : (reported : ℕ → Type 0) (link new : PolledLink) (bytes : List ℕ) (left known : Option (List ℕ)) (events noted : Option (List LinkEvent)) (more : List LinkEvent) → noted ≡ with_events events more → Drives reported link known bytes more new known
+pub drove-took : (reported : ℕ → Type 0) (link new : PolledLink) (bytes : List ℕ) (left known : Option (List ℕ)) (events noted : Option (List LinkEvent))
+    (more : List LinkEvent) → noted ≡ with_events events more → Drives reported link known bytes more new known
     → KeepsDone link new → new.core.bytes ≤ link.core.bytes + length bytes → done_of link + 1 ≤ done_of new + length bytes + length more
-    → Drove 1 reported link (record { remaining = prepend_known bytes left; written = known; events = events }) new (record { remaining = left; written = known; events = noted })
-drove-took reported link new bytes left known events noted more said follows kept taken work = record { bytes = bytes; more = more; read = refl; noted = said; follows = follows; kept = kept; taken = taken; work = work }
+    → Drove 1 reported link (record { remaining = prepend_known bytes left; written = known; events = events }) new
+    (record { remaining = left; written = known; events = noted })
+drove-took reported link new bytes left known events noted more said follows kept taken work =
+    record { bytes = bytes; more = more; read = refl; noted = said; follows = follows; kept = kept; taken = taken; work = work }
 
 -- the source ended, or nothing more is read
-module _ (reported : ℕ → Type 0) (link new : PolledLink) (bytes : List ℕ) (left known : Option (List ℕ)) (events noted : Option (List LinkEvent)) (held : IsHeld link) (idle : link.unwritten ≡ None) (going : link.ended ≡ false)
+module _ (reported : ℕ → Type 0) (link new : PolledLink) (bytes : List ℕ) (left known : Option (List ℕ)) (events noted : Option (List LinkEvent))
+    (held : IsHeld link) (idle : link.unwritten ≡ None) (going : link.ended ≡ false)
     (window : new.window ≡ link.window) (unwritten : new.unwritten ≡ link.unwritten) (ended : new.ended ≡ true) (written : new.written ≡ link.written) where
-  pub drove-ended : (more : List LinkEvent) → new.core.bytes ≡ link.core.bytes → core_position new.core ≡ core_position link.core → link.core.runner.cuts ≤ new.core.runner.cuts → noted ≡ with_events events more → KeepsCarried reported link.core more new.core
-      → has_source_end more ≡ is_some (read_end_of new.source) → (core_ending link.core ≡ None → AreLeftOver link new.source bytes) → ((core_ending link.core ≡ None → ⊥) → read_end_of new.source ≡ None)
-      → Drove 1 reported link (record { remaining = prepend_known bytes left; written = known; events = events }) new (record { remaining = left; written = known; events = noted })
+  pub drove-ended : (more : List LinkEvent) → new.core.bytes ≡ link.core.bytes → core_position new.core ≡ core_position link.core
+      → link.core.runner.cuts ≤ new.core.runner.cuts → noted ≡ with_events events more → KeepsCarried reported link.core more new.core
+      → has_source_end more ≡ is_some (read_end_of new.source) → (core_ending link.core ≡ None → AreLeftOver link new.source bytes)
+      → ((core_ending link.core ≡ None → ⊥) → read_end_of new.source ≡ None)
+      → Drove 1 reported link (record { remaining = prepend_known bytes left; written = known; events = events }) new
+      (record { remaining = left; written = known; events = noted })
   drove-ended more counts position cuts said keeps says over late =
       let before = ap shut_of going in
       let after = ap shut_of ended in
-      drove-took reported link new bytes left known events noted more said (drives-ended link new held idle counts position window unwritten ended written reported more bytes known going keeps says over late)
-      (record { found = omega (arith, position); cuts = cuts; written = omega (arith, written); ended = omega (arith, before, after) }) (omega (arith, counts)) (omega (arith, position, cuts, written, before, after))
+      drove-took reported link new bytes left known events noted more said
+      (drives-ended link new held idle counts position window unwritten ended written reported more bytes known going keeps says over late)
+      (record { found = omega (arith, position); cuts = cuts; written = omega (arith, written); ended = omega (arith, before, after) }) (omega (arith, counts))
+      (omega (arith, position, cuts, written, before, after))
 
   pub drove-shut : new.core ≡ link.core → new.source ≡ link.source → noted ≡ events
-      → Drove 1 reported link (record { remaining = prepend_known bytes left; written = known; events = events }) new (record { remaining = left; written = known; events = noted })
+      → Drove 1 reported link (record { remaining = prepend_known bytes left; written = known; events = events }) new
+      (record { remaining = left; written = known; events = noted })
   drove-shut core source said =
       let none : read_end_of new.source ≡ None = ap read_end_of source ∙ held.unheard going in
-      drove-ended [] (ap (λ (core : CoreView). core.bytes) core) (ap core_position core) (let cuts = ap (λ (core : CoreView). core.runner.cuts) core in omega (arith, cuts)) (said ∙ events-none events) (keeps-same reported link.core new.core core) (sym (ap is_some none))
+      drove-ended [] (ap (λ (core : CoreView). core.bytes) core) (ap core_position core)
+      (let cuts = ap (λ (core : CoreView). core.runner.cuts) core in omega (arith, cuts)) (said ∙ events-none events)
+      (keeps-same reported link.core new.core core) (sym (ap is_some none))
       (λ unknown came long. subst (λ source. IfSome source (λ end. IsUnsent end came bytes)) (sym none) tt) (λ known. none)
 
 -- a direction that is new may be driven
-pub ready-new : (reported : ℕ → Type 0) (link : PolledLink) (left : Option (List ℕ)) (failed : Bool) → IsNew link → IsHeld link → failed ≡ false → IsReady reported link left failed
+pub ready-new : (reported : ℕ → Type 0) (link : PolledLink) (left : Option (List ℕ)) (failed : Bool) → IsNew link → IsHeld link → failed ≡ false
+    → IsReady reported link left failed
 ready-new reported link left failed new held works = record {
   held = held;
   read = inl new.latest;
@@ -384,7 +475,8 @@ ready-new reported link left failed new held works = record {
 }
 
 -- and follows its plan
-pub follows-new : (means : List Item → List Item) (reported : ℕ → Type 0) (link : PolledLink) (known : Option (List ℕ)) → IsNew link → ((items : List Item) → IsStream items → remaining_output link.core items ≡ means items) → Follows means reported link [] [] known known
+pub follows-new : (means : List Item → List Item) (reported : ℕ → Type 0) (link : PolledLink) (known : Option (List ℕ)) → IsNew link
+    → ((items : List Item) → IsStream items → remaining_output link.core items ≡ means items) → Follows means reported link [] [] known known
 follows-new means reported link known new output =
     let carried : Carried means reported link.core [] = start-carried means reported link.core new.bytes new.latest new.position new.none_kept output in
     record {

@@ -1,5 +1,6 @@
 -- A direction that is driven by events, step by step.
-use Rattle.std.proofs.Common.{◌≡◌, ℕ, ◌+◌, ◌<◌, ◌≤◌, ◌^◌, Bool, false, true, List, [], ◌∷◌, ◌++◌, length, length-append, take, drop, Option, Some, None, refl, ap, ◌∙◌, sym, subst, append-nil, arith}
+use Rattle.std.proofs.Common.{◌≡◌, ℕ, ◌+◌, ◌<◌, ◌≤◌, ◌^◌, Bool, false, true, List, [], ◌∷◌, ◌++◌, length, length-append, take, drop, Option, Some, None, refl}
+use Rattle.std.proofs.Common.{ap, ◌∙◌, sym, subst, append-nil, arith}
 use Rattle.std.specs.Io.KnownBytes.{append_known}
 use Rattle.std.specs.Prelude.{is_some, IfSome}
 use Rattle.std.proofs.Math.Seq.{drop-append_seam}
@@ -27,17 +28,20 @@ use Rattle.tox_link.proofs.HeldLemmas.{written_more}
 use Rattle.tox_link.proofs.SideLemmas.{past, past-joined, past-parts, parts-grow, parts-add, last-part}
 
 -- the slice that is being written
-pub at-slice : (link : PolledLink) (unwritten : Unwritten) → IsHeld link → link.unwritten ≡ Some unwritten → IsUpTo (Some unwritten) link.written (core_position link.core)
+pub at-slice : (link : PolledLink) (unwritten : Unwritten) → IsHeld link → link.unwritten ≡ Some unwritten
+    → IsUpTo (Some unwritten) link.written (core_position link.core)
 at-slice link unwritten held writing = subst (λ slice. IsUpTo slice link.written (core_position link.core)) writing held.up_to
 
 -- the window holds what is left of it
-pub holds-left : (link : PolledLink) (unwritten : Unwritten) → IsHeld link → link.unwritten ≡ Some unwritten → link.written ≤ unwritten.slice.span.stop → HoldsSpan link.window (record { start = link.written; stop = unwritten.slice.span.stop })
+pub holds-left : (link : PolledLink) (unwritten : Unwritten) → IsHeld link → link.unwritten ≡ Some unwritten → link.written ≤ unwritten.slice.span.stop
+    → HoldsSpan link.window (record { start = link.written; stop = unwritten.slice.span.stop })
 holds-left link unwritten held writing left =
     let at = at-slice link unwritten held writing in
     record { joined = held.joined; from_start = held.start; in_order = left; to_stop = omega (arith, at.0, held.within, held.stop) }
 
 -- more of the slice is written
-pub held-on : (link : PolledLink) (unwritten : Unwritten) (count : ℕ) → IsHeld link → link.unwritten ≡ Some unwritten → link.written + count ≤ unwritten.slice.span.stop → IsHeld (record link { written = link.written + count })
+pub held-on : (link : PolledLink) (unwritten : Unwritten) (count : ℕ) → IsHeld link → link.unwritten ≡ Some unwritten
+    → link.written + count ≤ unwritten.slice.span.stop → IsHeld (record link { written = link.written + count })
 held-on link unwritten count held writing few =
     let at = at-slice link unwritten held writing in
     record {
@@ -46,7 +50,8 @@ held-on link unwritten count held writing few =
       start = omega (arith, held.start);
       within = held.within;
       few = held.few;
-      up_to = subst (λ slice. IsUpTo slice (link.written + count) (core_position link.core)) (sym writing) (at.0, omega (arith, at.1), omega (arith, at.0, few));
+      up_to = subst (λ slice. IsUpTo slice (link.written + count) (core_position link.core)) (sym writing)
+          (at.0, omega (arith, at.1), omega (arith, at.0, few));
       going = held.going;
       unheard = held.unheard;
     }
@@ -62,12 +67,21 @@ writes-part link old new front count few part after = record {
   parts = λ came parts. parts;
   wrote = λ came before parts wrote.
       written_more before old new came link.written count wrote
-      (after ∙ ap (λ bytes. append_known old (take count bytes)) (part came parts) ∙ ap (append_known old) (take-take count (length front) (drop link.written came) few));
+      (after ∙ ap (λ bytes. append_known old (take count bytes)) (part came parts)
+      ∙ ap (append_known old) (take-take count (length front) (drop link.written came) few));
 }
 
 -- nothing was written
 pub writes-none : (link : PolledLink) (old new : Option (List ℕ)) → new ≡ old → WritesOn link old [] link new
-writes-none link old new same = record { core = refl; source = refl; ended = refl; noted = refl; parts = λ came parts. parts; wrote = λ came before parts wrote. same ∙ wrote }
+writes-none link old new same = record {
+  core = refl;
+  source = refl;
+  ended = refl;
+  noted = refl;
+  parts = λ came parts. parts;
+  wrote = λ came before parts wrote.
+      same ∙ wrote;
+}
 
 pub writes-same : (old new : PolledLink) (known : Option (List ℕ)) → new ≡ old → WritesOn old known [] new known
 writes-same old new known same = subst (λ link. WritesOn old known [] link known) (sym same) (writes-none old known known refl)
@@ -78,10 +92,21 @@ pub held-noted : (link : PolledLink) (unwritten : Unwritten) → IsHeld link →
 held-noted link unwritten held writing whole =
     let at = at-slice link unwritten held writing in
     let left = past-joined link.window.stop link.written link.window.held held.joined held.start (omega (arith, at.2, held.within, held.stop)) in
-    record { stop = held.stop; joined = left.0; start = left.1; within = held.within; few = held.few; up_to = omega (arith, at.0, at.2, whole); going = held.going; unheard = held.unheard }
+    record {
+      stop = held.stop;
+      joined = left.0;
+      start = left.1;
+      within = held.within;
+      few = held.few;
+      up_to = omega (arith, at.0, at.2, whole);
+      going =
+          held.going;
+      unheard = held.unheard;
+    }
 
 pub writes-noted : (link : PolledLink) (unwritten : Unwritten) (known : Option (List ℕ)) → link.unwritten ≡ Some unwritten
-    → WritesOn link known (Wrote unwritten.slice unwritten.reading ∷ []) (record link { unwritten = None; window = record link.window { held = past link.written link.window.held } }) known
+    → WritesOn link known (Wrote unwritten.slice unwritten.reading ∷ [])
+    (record link { unwritten = None; window = record link.window { held = past link.written link.window.held } }) known
 writes-noted link unwritten known writing = record {
   core = refl;
   source = refl;
@@ -92,11 +117,14 @@ writes-noted link unwritten known writing = record {
 }
 
 -- where no slice is being written nothing is still to be noted
-pub bare : (means : List Item → List Item) (reported : ℕ → Type 0) (core : CoreView) (unwritten : Option Unwritten) (log : List LinkEvent) → unwritten ≡ None → Carried means reported core (log ++ unsaid unwritten) → Carried means reported core log
+pub bare : (means : List Item → List Item) (reported : ℕ → Type 0) (core : CoreView) (unwritten : Option Unwritten) (log : List LinkEvent) → unwritten ≡ None
+    → Carried means reported core (log ++ unsaid unwritten) → Carried means reported core log
 bare means reported core unwritten log idle carried = subst (Carried means reported core) (ap (λ slice. log ++ unsaid slice) idle ∙ append-nil log) carried
 
-pub clad : (means : List Item → List Item) (reported : ℕ → Type 0) (core : CoreView) (unwritten : Option Unwritten) (log : List LinkEvent) → unwritten ≡ None → Carried means reported core log → Carried means reported core (log ++ unsaid unwritten)
-clad means reported core unwritten log idle carried = subst (Carried means reported core) (sym (ap (λ slice. log ++ unsaid slice) idle ∙ append-nil log)) carried
+pub clad : (means : List Item → List Item) (reported : ℕ → Type 0) (core : CoreView) (unwritten : Option Unwritten) (log : List LinkEvent) → unwritten ≡ None
+    → Carried means reported core log → Carried means reported core (log ++ unsaid unwritten)
+clad means reported core unwritten log idle carried = subst (Carried means reported core) (sym (ap (λ slice. log ++ unsaid slice) idle ∙ append-nil log))
+    carried
 
 -- what is written is no more than what came
 pub written-within : (link : PolledLink) → IsHeld link → link.unwritten ≡ None → link.written ≤ link.core.bytes
@@ -110,7 +138,8 @@ pub unsent-none : (link : PolledLink) (came : List ℕ) → read_end_of link.sou
 unsent-none link came none = subst (λ source. IfSome source (λ end. IsUnsent end (take link.core.bytes came) (drop link.core.bytes came))) (sym none) tt
 
 -- what was read last is not kept
-unsent-left : (source : SourceEnding) (count new : ℕ) (came bytes : List ℕ) → new ≡ count → count ≡ length came → IfSome (read_end_of source) (λ end. IsUnsent end came bytes)
+unsent-left : (source : SourceEnding) (count new : ℕ) (came bytes : List ℕ) → new ≡ count → count ≡ length came
+    → IfSome (read_end_of source) (λ end. IsUnsent end came bytes)
     → IfSome (read_end_of source) (λ end. IsUnsent end (take new (came ++ bytes)) (drop new (came ++ bytes)))
 unsent-left source count new came bytes same full left =
     let at : new ≡ length came = same ∙ full in
@@ -120,54 +149,62 @@ unsent-left source count new came bytes same full left =
     (subst (λ rest. IfSome (read_end_of source) (λ end. IsUnsent end came rest)) (sym rest) left)
 
 -- bytes came and are kept
-module _ (link new : PolledLink) (run : Run) (held : IsHeld link) (idle : link.unwritten ≡ None) (some : 0 < length run.bytes) (starts : run.start ≡ link.window.stop)
+module _ (link new : PolledLink) (run : Run) (held : IsHeld link) (idle : link.unwritten ≡ None) (some : 0 < length run.bytes)
+    (starts : run.start ≡ link.window.stop)
     (counts : new.core.bytes ≡ link.core.bytes + length run.bytes) (position : core_position new.core ≡ core_position link.core)
     (window : new.window ≡ record link.window { held = link.window.held ++ run ∷ []; stop = stop_of run })
-    (unwritten : new.unwritten ≡ link.unwritten) (source : new.source ≡ link.source) (ended : new.ended ≡ link.ended) (written : new.written ≡ link.written) where
-  held_is : new.window.held ≡ link.window.held ++ run ∷ []
-  held_is = ap (λ (window : Pieces). window.held) window
+    (unwritten : new.unwritten ≡ link.unwritten) (source : new.source ≡ link.source) (ended : new.ended ≡ link.ended) (written : new.written ≡ link.written)
+  where
+    held_is : new.window.held ≡ link.window.held ++ run ∷ []
+    held_is = ap (λ (window : Pieces). window.held) window
 
-  stop_is : new.window.stop ≡ stop_of run
-  stop_is = ap (λ (window : Pieces). window.stop) window
+    stop_is : new.window.stop ≡ stop_of run
+    stop_is = ap (λ (window : Pieces). window.stop) window
 
-  start_is : start_of new.window.stop new.window.held ≡ start_of link.window.stop link.window.held
-  start_is = ap (λ (window : Pieces). start_of window.stop window.held) window ∙ start_of-push link.window.stop link.window.held run starts
+    start_is : start_of new.window.stop new.window.held ≡ start_of link.window.stop link.window.held
+    start_is = ap (λ (window : Pieces). start_of window.stop window.held) window ∙ start_of-push link.window.stop link.window.held run starts
 
-  pub held-kept : new.core.ended ≡ false → new.core.bytes ≤ 2 ^ 40 → IsHeld new
-  held-kept going few = record {
-    stop = omega (arith, stop_is, starts, held.stop, counts);
-    joined = subst (λ pieces. JoinUpTo new.window.stop pieces) (sym held_is) (subst (λ at. JoinUpTo at (link.window.held ++ run ∷ [])) (sym stop_is) (JoinUpTo-push link.window.stop link.window.held run held.joined starts some));
-    start = omega (arith, start_is, held.start, written);
-    within = omega (arith, position, held.within, counts);
-    few = few;
-    up_to = subst (λ slice. IsUpTo slice new.written (core_position new.core)) (sym (unwritten ∙ idle))
-        (written ∙ subst (λ slice. IsUpTo slice link.written (core_position link.core)) idle held.up_to ∙ sym position);
-    going = λ unended. going;
-    unheard = λ unended. ap read_end_of source ∙ held.unheard (sym ended ∙ unended);
-  }
+    pub held-kept : new.core.ended ≡ false → new.core.bytes ≤ 2 ^ 40 → IsHeld new
+    held-kept going few = record {
+      stop = omega (arith, stop_is, starts, held.stop, counts);
+      joined = subst (λ pieces. JoinUpTo new.window.stop pieces) (sym held_is)
+          (subst (λ at. JoinUpTo at (link.window.held ++ run ∷ [])) (sym stop_is)
+              (JoinUpTo-push link.window.stop link.window.held run held.joined starts some));
+      start = omega (arith, start_is, held.start, written);
+      within = omega (arith, position, held.within, counts);
+      few = few;
+      up_to = subst (λ slice. IsUpTo slice new.written (core_position new.core)) (sym (unwritten ∙ idle))
+          (written ∙ subst (λ slice. IsUpTo slice link.written (core_position link.core)) idle held.up_to ∙ sym position);
+      going = λ unended. going;
+      unheard = λ unended. ap read_end_of source ∙ held.unheard (sym ended ∙ unended);
+    }
 
-  pub drives-kept : (reported : ℕ → Type 0) (more : List LinkEvent) (known : Option (List ℕ)) → link.ended ≡ false → core_ending link.core ≡ None → KeepsCarried reported link.core more new.core → has_source_end more ≡ false
-      → Drives reported link known run.bytes more new known
-  drives-kept reported more known going unknown keeps none means log came before follows =
-      let all = length-append came run.bytes in
-      let full : link.core.bytes ≡ length came = follows.live going unknown in
-      let carried : Carried means reported new.core (log ++ more) = keeps means log (bare means reported link.core link.unwritten log idle follows.carried) in
-      record {
-        carried = clad means reported new.core new.unwritten (log ++ more) (unwritten ∙ idle) carried;
-        faithful = carried.faithful;
-        closed = end-same log more none ∙ follows.closed ∙ ap (λ source. is_some (read_end_of source)) (sym source);
-        parts = subst (AreOf (came ++ run.bytes)) (sym held_is)
-            (parts-add (came ++ run.bytes) link.window.held run (parts-grow link.window.stop came run.bytes link.window.held held.joined (omega (arith, held.stop, full)) follows.parts)
-            (last-part came run.bytes run.start (omega (arith, starts, held.stop, full))));
-        few = omega (arith, all, full, counts);
-        live = λ unended unknown. omega (arith, all, full, counts);
-        unsent = unsent-none new (came ++ run.bytes) (ap read_end_of source ∙ held.unheard going);
-        wrote = let few = written-within link held idle in
-            follows.wrote ∙ ap (append_known before) (sym (take-append-le link.written came run.bytes (omega (arith, few, full))) ∙ ap (λ n. take n (came ++ run.bytes)) (sym written));
-      }
+    pub drives-kept : (reported : ℕ → Type 0) (more : List LinkEvent) (known : Option (List ℕ)) → link.ended ≡ false → core_ending link.core ≡ None
+        → KeepsCarried reported link.core more new.core → has_source_end more ≡ false
+        → Drives reported link known run.bytes more new known
+    drives-kept reported more known going unknown keeps none means log came before follows =
+        let all = length-append came run.bytes in
+        let full : link.core.bytes ≡ length came = follows.live going unknown in
+        let carried : Carried means reported new.core (log ++ more) = keeps means log (bare means reported link.core link.unwritten log idle follows.carried) in
+        record {
+          carried = clad means reported new.core new.unwritten (log ++ more) (unwritten ∙ idle) carried;
+          faithful = carried.faithful;
+          closed = end-same log more none ∙ follows.closed ∙ ap (λ source. is_some (read_end_of source)) (sym source);
+          parts = subst (AreOf (came ++ run.bytes)) (sym held_is)
+              (parts-add (came ++ run.bytes) link.window.held run (parts-grow link.window.stop came run.bytes link.window.held held.joined
+              (omega (arith, held.stop, full)) follows.parts)
+              (last-part came run.bytes run.start (omega (arith, starts, held.stop, full))));
+          few = omega (arith, all, full, counts);
+          live = λ unended unknown. omega (arith, all, full, counts);
+          unsent = unsent-none new (came ++ run.bytes) (ap read_end_of source ∙ held.unheard going);
+          wrote = let few = written-within link held idle in
+              follows.wrote ∙ ap (append_known before) (sym (take-append-le link.written came run.bytes (omega (arith, few, full)))
+              ∙ ap (λ n. take n (came ++ run.bytes)) (sym written));
+        }
 
 -- bytes came and are dropped, as the ending is known or nothing more is read
-pub drives-dropped : (reported : ℕ → Type 0) (link : PolledLink) (bytes : List ℕ) (ended : Bool) (known : Option (List ℕ)) → IsHeld link → link.unwritten ≡ None → link.ended ≡ false
+pub drives-dropped : (reported : ℕ → Type 0) (link : PolledLink) (bytes : List ℕ) (ended : Bool) (known : Option (List ℕ)) → IsHeld link → link.unwritten ≡ None
+    → link.ended ≡ false
     → (ended ≡ false → core_ending link.core ≡ None → ⊥) → Drives reported link known bytes [] (record link { ended = ended }) known
 drives-dropped reported link bytes ended known held idle going over means log came before follows =
     let all = length-append came bytes in
@@ -188,7 +225,8 @@ shut : (ended : Bool) → ended ≡ true → ended ≡ false → ⊥
 shut ended was goes = cc
 
 -- the source ended, or nothing more is read
-module _ (link new : PolledLink) (held : IsHeld link) (idle : link.unwritten ≡ None) (counts : new.core.bytes ≡ link.core.bytes) (position : core_position new.core ≡ core_position link.core)
+module _ (link new : PolledLink) (held : IsHeld link) (idle : link.unwritten ≡ None) (counts : new.core.bytes ≡ link.core.bytes)
+    (position : core_position new.core ≡ core_position link.core)
     (window : new.window ≡ link.window) (unwritten : new.unwritten ≡ link.unwritten) (ended : new.ended ≡ true) (written : new.written ≡ link.written) where
   pub held-ended : IsHeld new
   held-ended = record {
@@ -204,7 +242,8 @@ module _ (link new : PolledLink) (held : IsHeld link) (idle : link.unwritten ≡
   }
 
   -- what was read last is left over
-  pub drives-ended : (reported : ℕ → Type 0) (more : List LinkEvent) (bytes : List ℕ) (known : Option (List ℕ)) → link.ended ≡ false → KeepsCarried reported link.core more new.core → has_source_end more ≡ is_some (read_end_of new.source)
+  pub drives-ended : (reported : ℕ → Type 0) (more : List LinkEvent) (bytes : List ℕ) (known : Option (List ℕ)) → link.ended ≡ false
+      → KeepsCarried reported link.core more new.core → has_source_end more ≡ is_some (read_end_of new.source)
       → (core_ending link.core ≡ None → AreLeftOver link new.source bytes) → ((core_ending link.core ≡ None → ⊥) → read_end_of new.source ≡ None)
       → Drives reported link known bytes more new known
   drives-ended reported more bytes known going keeps says left late means log came before follows =
@@ -213,19 +252,23 @@ module _ (link new : PolledLink) (held : IsHeld link) (idle : link.unwritten ≡
       record {
         carried = clad means reported new.core new.unwritten (log ++ more) (unwritten ∙ idle) carried;
         faithful = carried.faithful;
-        closed = has_source_end-append log more ∙ or-false_left (has_source_end log) (has_source_end more) (follows.closed ∙ ap is_some (held.unheard going)) ∙ says;
+        closed = has_source_end-append log more ∙ or-false_left (has_source_end log) (has_source_end more) (follows.closed ∙ ap is_some (held.unheard going))
+            ∙ says;
         parts = subst (λ (window : Pieces). AreOf (came ++ bytes) window.held) (sym window)
             (parts-grow link.window.stop came bytes link.window.held held.joined (omega (arith, held.stop, follows.few)) follows.parts);
         few = omega (arith, all, counts, follows.few);
         live = λ unended unknown. absurd (shut new.ended ended unended);
         unsent = left_over means log came before follows (core_ending link.core) refl;
         wrote = let few = written-within link held idle in
-            follows.wrote ∙ ap (append_known before) (sym (take-append-le link.written came bytes (omega (arith, few, follows.few)))) ∙ ap (λ n. append_known before (take n (came ++ bytes))) (sym written);
+            follows.wrote ∙ ap (append_known before) (sym (take-append-le link.written came bytes (omega (arith, few, follows.few))))
+            ∙ ap (λ n. append_known before (take n (came ++ bytes))) (sym written);
       }
     where
-      left_over : (means : List Item → List Item) (log : List LinkEvent) (came : List ℕ) (before : Option (List ℕ)) → Follows means reported link log came before known → (ending : Option Ending) → core_ending link.core ≡ ending
+      left_over : (means : List Item → List Item) (log : List LinkEvent) (came : List ℕ) (before : Option (List ℕ))
+          → Follows means reported link log came before known → (ending : Option Ending) → core_ending link.core ≡ ending
           → IfSome (read_end_of new.source) (λ end. IsUnsent end (take new.core.bytes (came ++ bytes)) (drop new.core.bytes (came ++ bytes)))
-      left_over means log came before follows (Some ending) knows = unsent-none new (came ++ bytes) (late (λ none. let both : Some ending ≡ None = sym knows ∙ none in cc))
+      left_over means log came before follows (Some ending) knows = unsent-none new (came ++ bytes)
+          (late (λ none. let both : Some ending ≡ None = sym knows ∙ none in cc))
       left_over means log came before follows None unknown =
           let full : link.core.bytes ≡ length came = follows.live going unknown in
           unsent-left new.source link.core.bytes new.core.bytes came bytes counts full (left unknown came full)

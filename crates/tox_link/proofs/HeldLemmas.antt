@@ -1,5 +1,6 @@
 -- Bytes that are written from the pieces of a window, one part after the other.
-use Rattle.std.proofs.Common.{◌≡◌, ℕ, ◌+◌, ◌-◌, ◌<◌, ◌≤◌, cond, inl, inr, List, [], ◌∷◌, ◌++◌, length, length-drop, length-take-le, take, drop, Option, Some, None, refl, ap, ◌∙◌, sym, subst, append_assoc, arith}
+use Rattle.std.proofs.Common.{◌≡◌, ℕ, ◌+◌, ◌-◌, ◌<◌, ◌≤◌, cond, inl, inr, List, [], ◌∷◌, ◌++◌, length, length-drop, length-take-le, take, drop, Option, Some}
+use Rattle.std.proofs.Common.{None, refl, ap, ◌∙◌, sym, subst, append_assoc, arith}
 use Rattle.std.specs.Prelude.{find, nat_lt, ◌&&◌}
 use Rattle.std.specs.Io.KnownBytes.{append_known}
 use Rattle.std.proofs.lemmas.Bool.{cases_lt, le-leb, lt-ltb, le-ltb}
@@ -16,12 +17,15 @@ append-append None xs ys = refl
 append-append (Some zs) xs ys = ap Some (append_assoc zs xs ys)
 
 -- what was written after the next bytes of a list
-pub written_more : (base old new : Option (List ℕ)) (bytes : List ℕ) (start count : ℕ) → old ≡ append_known base (take start bytes) → new ≡ append_known old (take count (drop start bytes)) → new ≡ append_known base (take (start + count) bytes)
+pub written_more : (base old new : Option (List ℕ)) (bytes : List ℕ) (start count : ℕ) → old ≡ append_known base (take start bytes)
+    → new ≡ append_known old (take count (drop start bytes)) → new ≡ append_known base (take (start + count) bytes)
 written_more base old new bytes start count before after =
-    after ∙ ap (λ known. append_known known (take count (drop start bytes))) before ∙ append-append base (take start bytes) (take count (drop start bytes)) ∙ ap (append_known base) (sym (take-add start count bytes))
+    after ∙ ap (λ known. append_known known (take count (drop start bytes))) before ∙ append-append base (take start bytes) (take count (drop start bytes))
+    ∙ ap (append_known base) (sym (take-add start count bytes))
 
 -- a part of a piece of the heard bytes
-pub part-of : (heard bytes : List ℕ) (start first count : ℕ) → bytes ≡ take (length bytes) (drop start heard) → start ≤ first → first + count ≤ start + length bytes → take count (drop (first - start) bytes) ≡ take count (drop first heard)
+pub part-of : (heard bytes : List ℕ) (start first count : ℕ) → bytes ≡ take (length bytes) (drop start heard) → start ≤ first
+    → first + count ≤ start + length bytes → take count (drop (first - start) bytes) ≡ take count (drop first heard)
 part-of heard bytes start first count is from within =
     let skip : ℕ = first - start in
     let left : ℕ = length bytes - (first - start) in
@@ -45,7 +49,8 @@ held-at stop position [] joined from before = absurd (omega (arith, from, before
 held-at stop position (piece ∷ pieces) joined from before = elim (cases_lt position (stop_of piece)) [
   | inl inside ↦ record {
     piece = piece;
-    found = ap (λ test. cond test (Some piece) (find (has_position position) pieces)) (ap (λ b. b && nat_lt position (stop_of piece)) (le-leb piece.start position from) ∙ lt-ltb position (stop_of piece) inside);
+    found = ap (λ test. cond test (Some piece) (find (has_position position) pieces))
+        (ap (λ b. b && nat_lt position (stop_of piece)) (le-leb piece.start position from) ∙ lt-ltb position (stop_of piece) inside);
     from_start = from;
     before_stop = inside;
     part = λ heard parts. parts.0;
@@ -54,7 +59,8 @@ held-at stop position (piece ∷ pieces) joined from before = elim (cases_lt pos
       let later : IsAt stop position pieces = held-at stop position pieces joined.2 (omega (arith, joined.1, past)) before in
       record {
         piece = later.piece;
-        found = ap (λ test. cond test (Some piece) (find (has_position position) pieces)) (ap (λ b. b && nat_lt position (stop_of piece)) (le-leb piece.start position from) ∙ le-ltb position (stop_of piece) past) ∙ later.found;
+        found = ap (λ test. cond test (Some piece) (find (has_position position) pieces))
+            (ap (λ b. b && nat_lt position (stop_of piece)) (le-leb piece.start position from) ∙ le-ltb position (stop_of piece) past) ∙ later.found;
         from_start = later.from_start;
         before_stop = later.before_stop;
         part = λ heard parts. later.part heard parts.1;
@@ -67,15 +73,19 @@ pub record Holds (position : ℕ) (pieces : List Run) (piece : Run) : Type 0 whe
   pub before_stop : position < stop_of piece
   pub part : (heard : List ℕ) → AreOf heard pieces → piece.bytes ≡ take (length piece.bytes) (drop piece.start heard)
 
-pub found-holds : (window : Pieces) (span : Span) (piece : Run) → HoldsSpan window span → span.start < span.stop → Some piece ≡ find (has_position span.start) window.held → Holds span.start window.held piece
+pub found-holds : (window : Pieces) (span : Span) (piece : Run) → HoldsSpan window span → span.start < span.stop
+    → Some piece ≡ find (has_position span.start) window.held → Holds span.start window.held piece
 found-holds window span piece held some found =
-    let at : IsAt window.stop span.start window.held = held-at window.stop span.start window.held held.joined held.from_start (omega (arith, held.to_stop, some)) in
-    subst (Holds span.start window.held) (same_Some at.piece piece (sym at.found ∙ sym found)) (record { from_start = at.from_start; before_stop = at.before_stop; part = at.part })
+    let at : IsAt window.stop span.start window.held = held-at window.stop span.start window.held held.joined held.from_start
+    (omega (arith, held.to_stop, some)) in
+    subst (Holds span.start window.held) (same_Some at.piece piece (sym at.found ∙ sym found))
+    (record { from_start = at.from_start; before_stop = at.before_stop; part = at.part })
 
 -- a window that holds a span finds a piece
 pub never-none : (window : Pieces) (span : Span) → HoldsSpan window span → span.start < span.stop → None ≡ find (has_position span.start) window.held → ⊥
 never-none window span held some none =
-    let at : IsAt window.stop span.start window.held = held-at window.stop span.start window.held held.joined held.from_start (omega (arith, held.to_stop, some)) in
+    let at : IsAt window.stop span.start window.held = held-at window.stop span.start window.held held.joined held.from_start
+    (omega (arith, held.to_stop, some)) in
     let both : None ≡ Some at.piece = none ∙ at.found in
     absurd (cc)
 
@@ -85,15 +95,18 @@ pub record IsFront (start stop : ℕ) (pieces : List Run) (bytes : List ℕ) : T
   pub few : start + length bytes ≤ stop
   pub part : (heard : List ℕ) → AreOf heard pieces → bytes ≡ take (length bytes) (drop start heard)
 
-pub front-part : (piece : Run) (pieces : List Run) (start stop count : ℕ) (bytes : List ℕ) → Holds start pieces piece → 0 < count → start + count ≤ stop → start + count ≤ stop_of piece
+pub front-part : (piece : Run) (pieces : List Run) (start stop count : ℕ) (bytes : List ℕ) → Holds start pieces piece → 0 < count → start + count ≤ stop
+    → start + count ≤ stop_of piece
     → bytes ≡ bytes_at piece (record { start = start; stop = start + count }) → IsFront start stop pieces bytes
 front-part piece pieces start stop count bytes holds some few within is =
     let width : (start + count - piece.start) - (start - piece.start) ≡ count = omega (arith, holds.from_start) in
     let exact : bytes ≡ take count (drop (start - piece.start) piece.bytes) = is ∙ ap (λ n. take n (drop (start - piece.start) piece.bytes)) width in
     let left : length (drop (start - piece.start) piece.bytes) ≡ length piece.bytes - (start - piece.start) = length-drop (start - piece.start) piece.bytes in
-    let long : length bytes ≡ count = ap length exact ∙ length-take-le count (drop (start - piece.start) piece.bytes) (omega (arith, left, within, holds.from_start)) in
+    let long : length bytes ≡ count = ap length exact ∙ length-take-le count (drop (start - piece.start) piece.bytes)
+    (omega (arith, left, within, holds.from_start)) in
     record {
       some = omega (arith, long, some);
       few = omega (arith, long, few);
-      part = λ heard parts. exact ∙ part-of heard piece.bytes piece.start start count (holds.part heard parts) holds.from_start (omega (arith, within)) ∙ ap (λ n. take n (drop start heard)) (sym long);
+      part = λ heard parts. exact ∙ part-of heard piece.bytes piece.start start count (holds.part heard parts) holds.from_start (omega (arith, within))
+          ∙ ap (λ n. take n (drop start heard)) (sym long);
     }

@@ -1,5 +1,6 @@
 -- A log that grows by one event.
-use Rattle.std.proofs.Common.{◌≡◌, ℕ, ◌+◌, ◌<◌, ◌≤◌, ◌⊎◌, inl, inr, Bool, true, false, List, [], ◌∷◌, ◌++◌, length, take, Option, Some, None, replicate, refl, ap, sym, ◌∙◌, subst, append_assoc, append-nil, add_assoc, add-zero, length-append, arith}
+use Rattle.std.proofs.Common.{◌≡◌, ℕ, ◌+◌, ◌<◌, ◌≤◌, ◌⊎◌, inl, inr, Bool, true, false, List, [], ◌∷◌, ◌++◌, length, take, Option, Some, None, replicate, refl}
+use Rattle.std.proofs.Common.{ap, sym, ◌∙◌, subst, append_assoc, append-nil, add_assoc, add-zero, length-append, arith}
 use Rattle.std.specs.Prelude.{◌||◌}
 use Rattle.std.proofs.lemmas.List.{take-append-le, take_all, length-replicate}
 use Rattle.std.proofs.lemmas.Bool.{cases_lt}
@@ -11,11 +12,13 @@ use Rattle.tox_time.specs.streams.Table.{slices_table}
 use Rattle.tox_link.specs.declared.notes.LinkEvent.{LinkEvent}
 use Rattle.tox_link.specs.declared.notes.LinkEvent.TheVariants.{Piece, SourceEnd, Wrote}
 use Rattle.tox_link.specs.log.Events.{with_events}
-use Rattle.tox_link.specs.log.Log.{heard_from, said, heard_bytes, has_source_end, reading_of, IsDue, IsTimely, IsGapless, IsFaithful, HearsNothing, IsHeardInOrder, Agrees}
+use Rattle.tox_link.specs.log.Log.{heard_from, said, heard_bytes, has_source_end, reading_of, IsDue, IsTimely, IsGapless, IsFaithful, HearsNothing}
+use Rattle.tox_link.specs.log.Log.{IsHeardInOrder, Agrees}
 use Rattle.tox_link.specs.log.Carried.{IsBy}
 
 -- a stream from an instant is one from an earlier instant
-pub stream-earlier : (position earlier since : ℕ) (items : List Item) → earlier ≤ since → IsStreamFrom position since items → IsStreamFrom position earlier items
+pub stream-earlier : (position earlier since : ℕ) (items : List Item) → earlier ≤ since → IsStreamFrom position since items
+    → IsStreamFrom position earlier items
 stream-earlier position earlier since [] before stream = absurd stream
 stream-earlier position earlier since (Chunk span t ∷ items) before stream = (stream.0, stream.1, omega (arith, before, stream.2), stream.3, stream.4)
 stream-earlier position earlier since (Closed t ∷ items) before stream = (omega (arith, before, stream.0), stream.1, stream.2)
@@ -24,22 +27,28 @@ stream-earlier position earlier since (Quiet ∷ items) before stream = stream
 
 -- what an event adds to what was heard
 pub heard-piece : (start : ℕ) (log : List LinkEvent) (len instant : ℕ) (rest : List Item)
-    → heard_from start (log ++ Piece len instant ∷ []) rest ≡ heard_from start log (Chunk (record { start = start + heard_bytes log; stop = start + heard_bytes log + len }) instant ∷ rest)
+    → heard_from start (log ++ Piece len instant ∷ []) rest ≡ heard_from start log
+    (Chunk (record { start = start + heard_bytes log; stop = start + heard_bytes log + len }) instant ∷ rest)
 heard-piece start [] len instant rest = rw (add-zero start) refl
 heard-piece start (Piece n t ∷ log) len instant rest =
-    ap (λ items. Chunk (record { start = start; stop = start + n }) t ∷ items) (rw (sym (add_assoc start n (heard_bytes log))) (heard-piece (start + n) log len instant rest))
+    ap (λ items. Chunk (record { start = start; stop = start + n }) t ∷ items)
+    (rw (sym (add_assoc start n (heard_bytes log))) (heard-piece (start + n) log len instant rest))
 heard-piece start (SourceEnd t ∷ log) len instant rest = refl
 heard-piece start (Wrote slice now ∷ log) len instant rest = heard-piece start log len instant rest
 
-pub heard-end : (start : ℕ) (log : List LinkEvent) (instant : ℕ) (rest : List Item) → heard_from start (log ++ SourceEnd instant ∷ []) rest ≡ heard_from start log (Closed instant ∷ [])
+pub heard-end : (start : ℕ) (log : List LinkEvent) (instant : ℕ) (rest : List Item)
+    → heard_from start (log ++ SourceEnd instant ∷ []) rest ≡ heard_from start log (Closed instant ∷ [])
 heard-end start [] instant rest = refl
-heard-end start (Piece n t ∷ log) instant rest = ap (λ items. Chunk (record { start = start; stop = start + n }) t ∷ items) (heard-end (start + n) log instant rest)
+heard-end start (Piece n t ∷ log) instant rest = ap (λ items. Chunk (record { start = start; stop = start + n }) t ∷ items)
+    (heard-end (start + n) log instant rest)
 heard-end start (SourceEnd t ∷ log) instant rest = refl
 heard-end start (Wrote slice now ∷ log) instant rest = heard-end start log instant rest
 
-pub heard-wrote : (start : ℕ) (log : List LinkEvent) (slice : Slice) (now : ℕ) (rest : List Item) → heard_from start (log ++ Wrote slice now ∷ []) rest ≡ heard_from start log rest
+pub heard-wrote : (start : ℕ) (log : List LinkEvent) (slice : Slice) (now : ℕ) (rest : List Item)
+    → heard_from start (log ++ Wrote slice now ∷ []) rest ≡ heard_from start log rest
 heard-wrote start [] slice now rest = refl
-heard-wrote start (Piece n t ∷ log) slice now rest = ap (λ items. Chunk (record { start = start; stop = start + n }) t ∷ items) (heard-wrote (start + n) log slice now rest)
+heard-wrote start (Piece n t ∷ log) slice now rest = ap (λ items. Chunk (record { start = start; stop = start + n }) t ∷ items)
+    (heard-wrote (start + n) log slice now rest)
 heard-wrote start (SourceEnd t ∷ log) slice now rest = refl
 heard-wrote start (Wrote other then ∷ log) slice now rest = heard-wrote start log slice now rest
 
@@ -55,7 +64,8 @@ heard_bytes-append (Piece n t ∷ log) more = let rest = heard_bytes-append log 
 heard_bytes-append (SourceEnd t ∷ log) more = heard_bytes-append log more
 heard_bytes-append (Wrote slice now ∷ log) more = heard_bytes-append log more
 
-pub gapless-append : (start : ℕ) (slices : List Slice) (stop : ℕ) (slice : Slice) → IsGapless start slices stop → slice.span.start ≡ stop → slice.span.start < slice.span.stop
+pub gapless-append : (start : ℕ) (slices : List Slice) (stop : ℕ) (slice : Slice) → IsGapless start slices stop → slice.span.start ≡ stop
+    → slice.span.start < slice.span.stop
     → IsGapless start (slices ++ slice ∷ []) slice.span.stop
 gapless-append start [] stop slice gapless at some = (at ∙ sym gapless, omega (arith, gapless, at, some), refl)
 gapless-append start (first ∷ slices) stop slice gapless at some = (gapless.0, gapless.1, gapless-append first.span.stop slices stop slice gapless.2 at some)
@@ -68,15 +78,19 @@ pub by-append : (latest : ℕ) (log : List LinkEvent) (event : LinkEvent) → Is
 by-append latest [] event is last = (last, tt)
 by-append latest (first ∷ log) event is last = (is.0, by-append latest log event is.1 last)
 
-timely-append : (reported : ℕ → Type 0) (since : ℕ) (log : List LinkEvent) (event : LinkEvent) → IsTimely reported since log → IsBy (reading_of event) log → since ≤ reading_of event → reported (reading_of event) → IsDue event
+timely-append : (reported : ℕ → Type 0) (since : ℕ) (log : List LinkEvent) (event : LinkEvent) → IsTimely reported since log → IsBy (reading_of event) log
+    → since ≤ reading_of event → reported (reading_of event) → IsDue event
     → IsTimely reported since (log ++ event ∷ [])
 timely-append reported since [] event timely by later says due = (says, later, due, tt)
-timely-append reported since (first ∷ log) event timely by later says due = (timely.0, timely.1, timely.2, timely-append reported (reading_of first) log event timely.3 by.1 by.0 says due)
+timely-append reported since (first ∷ log) event timely by later says due =
+    (timely.0, timely.1, timely.2, timely-append reported (reading_of first) log event timely.3 by.1 by.0 says due)
 
-prefixes : (means : List Item → List Item) (log : List LinkEvent) (event : LinkEvent) → ((n : ℕ) → Agrees means (take n log)) → Agrees means (log ++ event ∷ []) → (n : ℕ) → (length log < n) ⊎ (n ≤ length log)
+prefixes : (means : List Item → List Item) (log : List LinkEvent) (event : LinkEvent) → ((n : ℕ) → Agrees means (take n log)) → Agrees means (log ++ event ∷ [])
+    → (n : ℕ) → (length log < n) ⊎ (n ≤ length log)
     → Agrees means (take n (log ++ event ∷ []))
 prefixes means log event before now n (inr within) = subst (Agrees means) (sym (take-append-le n log (event ∷ []) within)) (before n)
-prefixes means log event before now n (inl past) = subst (Agrees means) (sym (take_all n (log ++ event ∷ []) (let more = length-append log (event ∷ []) in omega (arith, more, past)))) now
+prefixes means log event before now n (inl past) = subst (Agrees means)
+    (sym (take_all n (log ++ event ∷ []) (let more = length-append log (event ∷ []) in omega (arith, more, past)))) now
 
 pub has_source_end-append : (log more : List LinkEvent) → has_source_end (log ++ more) ≡ (has_source_end log || has_source_end more)
 has_source_end-append [] more = refl
@@ -98,7 +112,8 @@ open-log true ended closed going = let is = closed refl in cc
 open-log false ended closed going = refl
 
 -- what an event adds to what was heard in order
-pub ordered-piece : (log : List LinkEvent) (len instant : ℕ) → IsHeardInOrder log → has_source_end log ≡ false → 0 < len → IsHeardInOrder (log ++ Piece len instant ∷ [])
+pub ordered-piece : (log : List LinkEvent) (len instant : ℕ) → IsHeardInOrder log → has_source_end log ≡ false → 0 < len
+    → IsHeardInOrder (log ++ Piece len instant ∷ [])
 ordered-piece [] len instant ordered none some = (some, tt)
 ordered-piece (Piece n t ∷ log) len instant ordered none some = (ordered.0, ordered-piece log len instant ordered.1 none some)
 ordered-piece (SourceEnd t ∷ log) len instant ordered none some = absurd (cc)
@@ -123,7 +138,8 @@ ordered-wrote (SourceEnd t ∷ log) slice now ordered = nothing-wrote log slice 
 ordered-wrote (Wrote other then ∷ log) slice now ordered = ordered-wrote log slice now ordered
 
 -- a faithful log stays so with an event after which it agrees
-pub faithful-append : (means : List Item → List Item) (reported : ℕ → Type 0) (log : List LinkEvent) (event : LinkEvent) → IsFaithful means reported log → IsBy (reading_of event) log → reported (reading_of event) → IsDue event
+pub faithful-append : (means : List Item → List Item) (reported : ℕ → Type 0) (log : List LinkEvent) (event : LinkEvent) → IsFaithful means reported log
+    → IsBy (reading_of event) log → reported (reading_of event) → IsDue event
     → IsHeardInOrder (log ++ event ∷ []) → Agrees means (log ++ event ∷ []) → IsFaithful means reported (log ++ event ∷ [])
 faithful-append means reported log event faithful by says due ordered now = record {
   agrees = λ n. prefixes means log event faithful.agrees now n (cases_lt (length log) n);
@@ -135,7 +151,8 @@ pub events-none : (events : Option (List LinkEvent)) → events ≡ with_events 
 events-none None = refl
 events-none (Some log) = ap Some (sym (append-nil log))
 
-pub events-append : (base old new : Option (List LinkEvent)) (log more : List LinkEvent) → old ≡ with_events base log → new ≡ with_events old more → new ≡ with_events base (log ++ more)
+pub events-append : (base old new : Option (List LinkEvent)) (log more : List LinkEvent) → old ≡ with_events base log → new ≡ with_events old more
+    → new ≡ with_events base (log ++ more)
 events-append None old new log more first second = second ∙ ap (λ events. with_events events more) first
 events-append (Some before) old new log more first second = second ∙ ap (λ events. with_events events more) first ∙ ap Some (append_assoc before log more)
 

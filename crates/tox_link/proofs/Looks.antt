@@ -1,5 +1,6 @@
 -- A look for the next slice.
-use Rattle.std.proofs.Common.{◌≡◌, ℕ, ◌+◌, ◌<◌, ◌≤◌, ◌^◌, Bool, true, false, List, [], ◌∷◌, ◌++◌, length, map, append_assoc, replicate, Option, Some, None, refl, ap, ◌∙◌, sym, subst, arith, ◌⊎◌, inl, inr, if◌then◌else◌}
+use Rattle.std.proofs.Common.{◌≡◌, ℕ, ◌+◌, ◌<◌, ◌≤◌, ◌^◌, Bool, true, false, List, [], ◌∷◌, ◌++◌, length, map, append_assoc, replicate, Option, Some, None}
+use Rattle.std.proofs.Common.{refl, ap, ◌∙◌, sym, subst, arith, ◌⊎◌, inl, inr, if◌then◌else◌}
 use Rattle.std.specs.Prelude.{IsNone, IfSome, IfNone, Ok, Err, nat_lt, is_some, ◌==◌, ◌↔◌}
 use Rattle.std.proofs.lemmas.List.Sums.{sum_by-append}
 use Rattle.std.proofs.lemmas.Bool.{le-ltb}
@@ -24,7 +25,8 @@ use Rattle.tox_link.specs.declared.link_core.waiting.WaitingPiece.{WaitingPiece}
 use Rattle.tox_link.specs.declared.link_core.act.Act.{Act}
 use Rattle.tox_link.specs.declared.link_core.act.Act.TheVariants.{Write, WaitUntil, WaitForInput, End}
 use Rattle.tox_link.specs.link_core.Acts.{After, Answered}
-use Rattle.tox_link.specs.link_core.Core.{CoreView, remaining_output, arrivals_from, end_or, Looked, GivesUp, core_position, kept_lens, kept_start, next_start, IsDrained}
+use Rattle.tox_link.specs.link_core.Core.{CoreView, remaining_output, arrivals_from, end_or, Looked, GivesUp, core_position, kept_lens, kept_start, next_start}
+use Rattle.tox_link.specs.link_core.Core.{IsDrained}
 use Rattle.tox_link.specs.link_core.CoreKept.{IsCore, IsOver, IsFoundSlice, AreTimely, arrived_by, total_len}
 use Rattle.tox_link.proofs.WaitingLemmas.{timely-earlier}
 use Rattle.tox_link.proofs.CoreLemmas.{over-same}
@@ -54,14 +56,26 @@ gives-both a b c first second = record {
 gives-anyhow : (old new : CoreView) (before after : ℕ) → GivesUp old new → GivesUp (record old { room = before }) (record new { room = after })
 gives-anyhow old new before after gives = record { first = gives.first; lens = gives.lens; start = gives.start; before = gives.before }
 
-after-anyhow : (old new : CoreView) (before after now : ℕ) (act : Act) → After old now act new → After (record old { room = before }) now act (record new { room = after })
-after-anyhow old new before after now (Write slice) (due, takes) =
-    (due, record { tables = takes.tables; endings = takes.endings; starts = takes.starts; stops = takes.stops; within = takes.within; arrived = takes.arrived; apart = takes.apart })
+after-anyhow : (old new : CoreView) (before after now : ℕ) (act : Act) → After old now act new
+    → After (record old { room = before }) now act (record new { room = after })
+after-anyhow old new before after now (Write slice) (due, takes) = (
+  due,
+  record {
+    tables = takes.tables;
+    endings = takes.endings;
+    starts = takes.starts;
+    stops = takes.stops;
+    within = takes.within;
+    arrived = takes.arrived;
+    apart = takes.apart;
+  },
+)
 after-anyhow old new before after now (WaitUntil t) (ahead, leaves) = (ahead, record { output = leaves.output; position = leaves.position })
 after-anyhow old new before after now WaitForInput leaves = record { output = leaves.output; position = leaves.position }
 after-anyhow old new before after now (End last) leaves = record { output = leaves.output; position = leaves.position }
 
-pub answered-anyhow : (old new : CoreView) (before after now : ℕ) (act : Act) → Answered old new now act → Answered (record old { room = before }) (record new { room = after }) now act
+pub answered-anyhow : (old new : CoreView) (before after now : ℕ) (act : Act) → Answered old new now act
+    → Answered (record old { room = before }) (record new { room = after }) now act
 answered-anyhow old new before after now act answered = let kept = answered.kept in record {
   slice = answered.slice;
   idle = answered.idle;
@@ -114,7 +128,11 @@ looked-both a b c first second = record {
   ended = second.ended ∙ first.ended;
   bytes = second.bytes ∙ first.bytes;
   latest = second.latest ∙ first.latest;
-  waiting = (first.waiting.0 ++ second.waiting.0, first.waiting.1 ∙ ap (λ rest. first.waiting.0 ++ rest) second.waiting.1 ∙ sym (append_assoc first.waiting.0 second.waiting.0 c.waiting));
+  waiting = (
+    first.waiting.0 ++ second.waiting.0,
+    first.waiting.1 ∙ ap (λ rest. first.waiting.0 ++ rest) second.waiting.1
+        ∙ sym (append_assoc first.waiting.0 second.waiting.0 c.waiting),
+  );
   count = omega (arith, first.count, second.count);
   cuts = omega (arith, first.cuts, second.cuts);
   finished = second.finished ∙ first.finished;
@@ -123,7 +141,8 @@ looked-both a b c first second = record {
 }
 
 -- a cut of a runner, as one slice, has its part of the result
-cut-same : (old new : RunnerView) (slice : Slice) → IsCut old new slice → (items : List Item) → SameResult (as_chunk slice ∷ to_come new items) (to_come old items)
+cut-same : (old new : RunnerView) (slice : Slice) → IsCut old new slice → (items : List Item)
+    → SameResult (as_chunk slice ∷ to_come new items) (to_come old items)
 cut-same old new slice cut items =
     let goes : PreservesOutput old [] items new (slice ∷ []) items = goes-cut old new slice [] items cut in
     record {
@@ -132,7 +151,8 @@ cut-same old new slice cut items =
     }
 
 -- a runner takes a piece that fits, unless its ending is known
-takes : (runner : RunnerView) (len instant : ℕ) → runner.latest ≤ instant → 0 < len → runner.piece.span.stop + len ≤ 2 ^ 40 → runner.ending ≡ None → offer_answer runner len instant ≡ Ok tt
+takes : (runner : RunnerView) (len instant : ℕ) → runner.latest ≤ instant → 0 < len → runner.piece.span.stop + len ≤ 2 ^ 40 → runner.ending ≡ None
+    → offer_answer runner len instant ≡ Ok tt
 takes runner len instant later some few open_yet =
     let in_time : nat_lt instant runner.latest ≡ false = le-ltb instant runner.latest later in
     let few_bytes : nat_lt (2 ^ 40) (runner.piece.span.stop + len) ≡ false = le-ltb (2 ^ 40) (runner.piece.span.stop + len) few in
@@ -143,7 +163,8 @@ takes runner len instant later some few open_yet =
 pub taken-running : (runner : RunnerView) (len instant : ℕ) → Ok tt ≡ offer_answer runner len instant → runner.ending ≡ None
 taken-running runner len instant taken = by runner.ending refl
   where
-    never : (back empty many : Bool) → Ok tt ≡ answer_of (if back then Some TimeBack else (if empty then Some EmptyPiece else (if many then Some TooManyBytes else Some AfterEnd))) → ⊥
+    never : (back empty many : Bool) → Ok tt ≡ answer_of (if back then Some TimeBack else
+        (if empty then Some EmptyPiece else (if many then Some TooManyBytes else Some AfterEnd))) → ⊥
     never true empty many same = cc
     never false true many same = cc
     never false false true same = cc
@@ -163,7 +184,8 @@ pub idle-known : (runner : RunnerView) → runner.idle ≡ true → known_ending
 idle-known runner idle = ap (λ idle. if idle then runner.ending else None) idle
 
 -- so where an idle one refuses a piece, it is over
-refused-over : (runner : RunnerView) (len instant : ℕ) (fault : ArrivalFault) → runner.idle ≡ true → runner.latest ≤ instant → 0 < len → runner.piece.span.stop + len ≤ 2 ^ 40 → offer_answer runner len instant ≡ Err fault → IsOver runner
+refused-over : (runner : RunnerView) (len instant : ℕ) (fault : ArrivalFault) → runner.idle ≡ true → runner.latest ≤ instant → 0 < len
+    → runner.piece.span.stop + len ≤ 2 ^ 40 → offer_answer runner len instant ≡ Err fault → IsOver runner
 refused-over runner len instant fault idle later some few refused = by runner.ending refl
   where
     by : (known : Option Ending) → runner.ending ≡ known → IsOver runner
@@ -207,7 +229,8 @@ stands_of : (old new : RunnerView) (found : Option Slice) → IfSome found (Give
 stands_of old new None gives = tt
 stands_of old new (Some slice) gives = record { starts = gives.begins; stops = gives.stands; busy = gives.busy }
 
-apart_of : (old new : RunnerView) (found : Option Slice) → IfSome found (GivesCut old new) → IfSome found (λ slice. BeginsApart slice.instant (to_come new (Quiet ∷ [])))
+apart_of : (old new : RunnerView) (found : Option Slice) → IfSome found (GivesCut old new)
+    → IfSome found (λ slice. BeginsApart slice.instant (to_come new (Quiet ∷ [])))
 apart_of old new None gives = tt
 apart_of old new (Some slice) gives = gives.apart
 
@@ -220,7 +243,8 @@ counted_of old new None gives stays = omega (arith, stays.cuts)
 counted_of old new (Some slice) gives stays = omega (arith, gives.cut.counted)
 
 -- what the runner's call tells
-pub cuts_of : (old new : RunnerView) (found : Option Slice) → IfSome found (GivesCut old new) → IsNone found ↔ HasNoChunk (to_come old (Quiet ∷ [])) → IfNone found (GivesNoCut old new)
+pub cuts_of : (old new : RunnerView) (found : Option Slice) → IfSome found (GivesCut old new) → IsNone found ↔ HasNoChunk (to_come old (Quiet ∷ []))
+    → IfNone found (GivesNoCut old new)
     → KeepsOffers old new → Cuts old new found
 cuts_of old new found gives none idle kept = record {
   some = cut_of old new found gives;
@@ -258,7 +282,8 @@ module _ (core : CoreView) (new : RunnerView) (found : Option Slice) where
     after : (items : List Item) → to_come new (arrivals_from new.piece.span.stop core.waiting (end_or core.end items)) ≡ to_come new (came items)
     after items = ap (λ piece. to_come new (arrivals_from piece.span.stop core.waiting (end_or core.end items))) cuts.piece
 
-    output : (is : Option Slice) → found ≡ is → (items : List Item) → SameResult (found_chunk is ++ to_come new (arrivals_from new.piece.span.stop core.waiting (end_or core.end items))) (remaining_output core items)
+    output : (is : Option Slice) → found ≡ is → (items : List Item) → SameResult
+        (found_chunk is ++ to_come new (arrivals_from new.piece.span.stop core.waiting (end_or core.end items))) (remaining_output core items)
     output None is items =
         let idle : Stays core.runner new = subst (λ found. IfNone found (Stays core.runner new)) is cuts.idle in
         same-of _ _ (after items ∙ idle.same (came items) ∙ sym (before items))
@@ -279,24 +304,30 @@ module _ (core : CoreView) (new : RunnerView) (found : Option Slice) where
     gives : (is : Option Slice) → found ≡ is → known_ending new ≡ None → GivesUp core after_cut
     gives None is unknown =
         let idle : Stays core.runner new = subst (λ found. IfNone found (Stays core.runner new)) is cuts.idle in
-        let starts : kept_start core ≡ core.runner.piece.span.start = ap (λ idle. if idle then core.runner.piece.span.stop else core.runner.piece.span.start) busy in
-        let stops : kept_start after_cut ≡ core.runner.piece.span.stop = ap (λ idle. if idle then new.piece.span.stop else new.piece.span.start) idle.idle ∙ ap (λ piece. piece.span.stop) cuts.piece in
-        let stands : core_position after_cut ≡ core.runner.piece.span.stop = ap (λ found. next_start found new.position) is ∙ idle.whole (sym (idle-known new idle.idle) ∙ unknown) in
+        let starts : kept_start core ≡ core.runner.piece.span.start = ap (λ idle. if idle then core.runner.piece.span.stop else core.runner.piece.span.start)
+        busy in
+        let stops : kept_start after_cut ≡ core.runner.piece.span.stop = ap (λ idle. if idle then new.piece.span.stop else new.piece.span.start) idle.idle
+        ∙ ap (λ piece. piece.span.stop) cuts.piece in
+        let stands : core_position after_cut ≡ core.runner.piece.span.stop = ap (λ found. next_start found new.position) is
+        ∙ idle.whole (sym (idle-known new idle.idle) ∙ unknown) in
         let moved : new.position ≡ core.runner.position = idle.position in
         let whole : new.position ≡ core.runner.piece.span.stop = idle.whole (sym (idle-known new idle.idle) ∙ unknown) in
         let from : core.runner.piece.span.start ≤ core.runner.position = idle.from busy in
         record {
           first = span_len core.runner.piece.span ∷ [];
           lens = ap (λ idle. (if idle then [] else span_len core.runner.piece.span ∷ []) ++ map (λ (piece : WaitingPiece). piece.len) core.waiting) busy
-              ∙ ap (λ idle. span_len core.runner.piece.span ∷ ((if idle then [] else span_len new.piece.span ∷ []) ++ map (λ (piece : WaitingPiece). piece.len) core.waiting)) (sym idle.idle);
+              ∙ ap (λ idle. span_len core.runner.piece.span ∷ ((if idle then [] else span_len new.piece.span ∷ [])
+              ++ map (λ (piece : WaitingPiece). piece.len) core.waiting)) (sym idle.idle);
           start = omega (arith, starts, stops, moved, whole, from);
           before = λ before. omega (arith, stops, stands);
         }
     gives (Some slice) is unknown =
         let cut : IsCut core.runner new slice = subst (λ found. IfSome found (IsCut core.runner new)) is cuts.some in
         let place : Stands core.runner new slice = subst (λ found. IfSome found (Stands core.runner new)) is cuts.place in
-        let starts : kept_start core ≡ core.runner.piece.span.start = ap (λ idle. if idle then core.runner.piece.span.stop else core.runner.piece.span.start) busy in
-        let starts_still : kept_start after_cut ≡ core.runner.piece.span.start = ap (λ idle. if idle then new.piece.span.stop else new.piece.span.start) place.busy ∙ ap (λ piece. piece.span.start) cuts.piece in
+        let starts : kept_start core ≡ core.runner.piece.span.start = ap (λ idle. if idle then core.runner.piece.span.stop else core.runner.piece.span.start)
+        busy in
+        let starts_still : kept_start after_cut ≡ core.runner.piece.span.start =
+        ap (λ idle. if idle then new.piece.span.stop else new.piece.span.start) place.busy ∙ ap (λ piece. piece.span.start) cuts.piece in
         let stands : core_position after_cut ≡ slice.span.start = ap (λ found. next_start found new.position) is in
         let from : core.runner.piece.span.start ≤ slice.span.start = cut.within.from in
         record {
@@ -330,11 +361,13 @@ module _ (core : CoreView) (new : RunnerView) (found : Option Slice) where
     not_over : IsOver core.runner → ⊥
     not_over over = let both : Some over.last ≡ None = sym over.known ∙ busy-unknown core.runner busy in cc
 
-    total : (core.runner.piece.span.stop + total_len core.waiting ≡ core.bytes) ⊎ IsOver core.runner → (new.piece.span.stop + total_len core.waiting ≡ core.bytes) ⊎ IsOver new
+    total : (core.runner.piece.span.stop + total_len core.waiting ≡ core.bytes) ⊎ IsOver core.runner
+        → (new.piece.span.stop + total_len core.waiting ≡ core.bytes) ⊎ IsOver new
     total (inl all) = inl (ap (λ piece. piece.span.stop + total_len core.waiting) cuts.piece ∙ all)
     total (inr over) = absurd (not_over over)
 
-    is_found : (core.runner.piece.span.stop + total_len core.waiting ≡ core.bytes) ⊎ IsOver core.runner → (is : Option Slice) → found ≡ is → IfSome is (IsFoundSlice new core.bytes)
+    is_found : (core.runner.piece.span.stop + total_len core.waiting ≡ core.bytes) ⊎ IsOver core.runner → (is : Option Slice) → found ≡ is
+        → IfSome is (IsFoundSlice new core.bytes)
     is_found whole None is = tt
     is_found (inr over) (Some slice) is = absurd (not_over over)
     is_found (inl all) (Some slice) is =
@@ -395,8 +428,10 @@ module _ (core : CoreView) (new : RunnerView) (piece : WaitingPiece) (rest : Lis
     gives_offer : GivesUp core after_offer
     gives_offer =
         let len_is : span_len new.piece.span ≡ piece.len = ap (λ piece. span_len piece.span) offers.offered ∙ omega arith in
-        let starts : kept_start core ≡ core.runner.piece.span.stop = ap (λ idle. if idle then core.runner.piece.span.stop else core.runner.piece.span.start) offers.idle in
-        let starts_still : kept_start after_offer ≡ core.runner.piece.span.stop = ap (λ idle. if idle then new.piece.span.stop else new.piece.span.start) offers.busy ∙ ap (λ piece. piece.span.start) offers.offered in
+        let starts : kept_start core ≡ core.runner.piece.span.stop = ap (λ idle. if idle then core.runner.piece.span.stop else core.runner.piece.span.start)
+        offers.idle in
+        let starts_still : kept_start after_offer ≡ core.runner.piece.span.stop =
+        ap (λ idle. if idle then new.piece.span.stop else new.piece.span.start) offers.busy ∙ ap (λ piece. piece.span.start) offers.offered in
         let stands : core_position after_offer ≡ core_position core = ap (λ position. next_start core.found position) offers.position in
         record {
           first = [];
@@ -422,14 +457,16 @@ module _ (core : CoreView) (new : RunnerView) (piece : WaitingPiece) (rest : Lis
       bytes = refl;
       latest = refl;
       waiting = (piece ∷ [], offers.waiting);
-      count = subst (λ waiting. length rest + (if new.idle then 0 else 1) ≤ length waiting + (if core.runner.idle then 0 else 1)) (sym offers.waiting) (count_offer new.idle core.runner.idle offers.busy offers.idle);
+      count = subst (λ waiting. length rest + (if new.idle then 0 else 1) ≤ length waiting + (if core.runner.idle then 0 else 1)) (sym offers.waiting)
+          (count_offer new.idle core.runner.idle offers.busy offers.idle);
       cuts = omega (arith, offers.counted);
       finished = offers.finished;
       unknown = λ none. idle-known core.runner offers.idle ∙ offers.running;
       given_up = λ none. gives_offer;
     }
 
-    total_offer : (core.runner.piece.span.stop + total_len core.waiting ≡ core.bytes) ⊎ IsOver core.runner → (new.piece.span.stop + total_len rest ≡ core.bytes) ⊎ IsOver new
+    total_offer : (core.runner.piece.span.stop + total_len core.waiting ≡ core.bytes) ⊎ IsOver core.runner
+        → (new.piece.span.stop + total_len rest ≡ core.bytes) ⊎ IsOver new
     total_offer (inl all) =
         let stop : new.piece.span.stop ≡ core.runner.piece.span.stop + piece.len = ap (λ piece. piece.span.stop) offers.offered in
         let split : total_len core.waiting ≡ piece.len + total_len rest = ap total_len offers.waiting in
@@ -454,7 +491,8 @@ module _ (core : CoreView) (piece : WaitingPiece) (rest : List WaitingPiece) (fa
   abbrev pub after_refusal : CoreView
   after_refusal = record core { waiting = rest }
 
-  module _ (invariant : IsCore core) (idle : core.runner.idle ≡ true) (waiting : core.waiting ≡ piece ∷ rest) (refused : offer_answer core.runner piece.len piece.instant ≡ Err fault) where
+  module _ (invariant : IsCore core) (idle : core.runner.idle ≡ true) (waiting : core.waiting ≡ piece ∷ rest)
+      (refused : offer_answer core.runner piece.len piece.instant ≡ Err fault) where
     timely : AreTimely core.runner.latest (piece ∷ rest) (arrived_by core.end core.latest)
     timely = subst (λ waiting. AreTimely core.runner.latest waiting (arrived_by core.end core.latest)) waiting invariant.timely
 

@@ -1,5 +1,6 @@
 -- The core of a plan without operations.
-use Rattle.std.proofs.Common.{◌≡◌, ◌≢◌, ℕ, zero, suc, ◌+◌, ◌<◌, ◌≤◌, Bool, true, false, List, [], ◌∷◌, ◌++◌, replicate, Option, Some, None, refl, ap, ◌∙◌, sym, subst, arith}
+use Rattle.std.proofs.Common.{◌≡◌, ◌≢◌, ℕ, zero, suc, ◌+◌, ◌<◌, ◌≤◌, Bool, true, false, List, [], ◌∷◌, ◌++◌, replicate, Option, Some, None, refl, ap, ◌∙◌, sym}
+use Rattle.std.proofs.Common.{subst, arith}
 use Rattle.std.specs.Prelude.{IsSome, slice_get, is_some, nat_le, if◌then◌else◌}
 use Rattle.std.proofs.lemmas.Bool.{leb-false}
 use Rattle.tox_time.specs.declared.streams.item.Item.{Item}
@@ -31,7 +32,8 @@ given-all : (given : ℕ) (end : Option Ending) (items : List Item) → to_come 
 given-all given end items = ap (λ rest. ending_or end (rest ++ items)) (rest_of-read given given 0 (omega arith))
 
 -- where no piece waits only the source's end is to come
-pub plain-read : (given : ℕ) (end : Option ℕ) (so_far : StreamPosition) (items : List Item) → remaining_output (plain_core given None end so_far) items ≡ end_or end items
+pub plain-read : (given : ℕ) (end : Option ℕ) (so_far : StreamPosition) (items : List Item)
+    → remaining_output (plain_core given None end so_far) items ≡ end_or end items
 plain-read given None so_far items = given-all given None items
 plain-read given (Some t) so_far items = given-all given (Some (ClosedAt t)) items
 
@@ -41,10 +43,18 @@ pub plain-waits : (given : ℕ) (piece : WaitingPiece) (end : Option ℕ) (so_fa
 plain-waits given piece end so_far items = given-all given None (chunk_from given piece ∷ end_or end items)
 
 -- at its start the core gives what arrives
-pub plain-begins : (plan : Ops) (words : List ℕ) (so_far : StreamPosition) → so_far ≡ record { position = 0; latest = 0; ended = false } → plan.ops ≡ [] → Begins plan words (plain_core 0 None None so_far)
+pub plain-begins : (plan : Ops) (words : List ℕ) (so_far : StreamPosition) → so_far ≡ record { position = 0; latest = 0; ended = false } → plan.ops ≡ []
+    → Begins plan words (plain_core 0 None None so_far)
 plain-begins plan words so_far first none = record {
   meaning = λ items stream. plain-read 0 None so_far items ∙ sym (ap (λ ops. means (record plan { ops = ops }) words items) none);
-  start = (refl, refl, ap (λ (place : StreamPosition). place.ended) first, ap (λ (place : StreamPosition). place.position) first, ap (λ (place : StreamPosition). place.latest) first, refl);
+  start = (
+    refl,
+    refl,
+    ap (λ (place : StreamPosition). place.ended) first,
+    ap (λ (place : StreamPosition). place.position) first,
+    ap (λ (place : StreamPosition). place.latest) first,
+    refl,
+  );
   none_kept = (refl, refl);
 }
 
@@ -54,7 +64,8 @@ first-instant zero t rest some = absurd (omega (arith, some))
 first-instant (suc len) t rest some = refl
 
 -- a piece that waits is given whole
-module _ (given now : ℕ) (piece : WaitingPiece) (end : Option ℕ) (so_far : StreamPosition) (some : 0 < piece.len) (early : piece.instant ≤ so_far.latest) (later : so_far.latest ≤ now)
+module _ (given now : ℕ) (piece : WaitingPiece) (end : Option ℕ) (so_far : StreamPosition) (some : 0 < piece.len) (early : piece.instant ≤ so_far.latest)
+    (later : so_far.latest ≤ now)
     (total : given + piece.len ≡ so_far.position) where
   abbrev pub given_slice : Slice
   given_slice = record { span = record { start = given; stop = given + piece.len }; instant = piece.instant }
@@ -70,12 +81,16 @@ module _ (given now : ℕ) (piece : WaitingPiece) (end : Option ℕ) (so_far : S
   apart (Some t) = tt
 
   next : next_instant (remaining_output waiting_core (Quiet ∷ [])) ≡ Some piece.instant
-  next = ap next_instant (plain-waits given piece end so_far (Quiet ∷ [])) ∙ first-instant (span_len given_slice.span) piece.instant (table (end_or end (Quiet ∷ []))) (omega (arith, some))
+  next = ap next_instant (plain-waits given piece end so_far (Quiet ∷ []))
+      ∙ first-instant (span_len given_slice.span) piece.instant (table (end_or end (Quiet ∷ []))) (omega (arith, some))
 
   gives : TakesSlice waiting_core given_core given_slice
   gives = record {
-    tables = λ items. ap table (plain-waits given piece end so_far items) ∙ ap (λ rest. replicate (span_len given_slice.span) piece.instant ++ table rest) (sym (plain-read (given + piece.len) end (record so_far { latest = now }) items));
-    endings = λ items. ap ending (plain-waits given piece end so_far items) ∙ ap ending (sym (plain-read (given + piece.len) end (record so_far { latest = now }) items));
+    tables = λ items. ap table (plain-waits given piece end so_far items)
+        ∙ ap (λ rest. replicate (span_len given_slice.span) piece.instant ++ table rest)
+        (sym (plain-read (given + piece.len) end (record so_far { latest = now }) items));
+    endings = λ items. ap ending (plain-waits given piece end so_far items)
+        ∙ ap ending (sym (plain-read (given + piece.len) end (record so_far { latest = now }) items));
     starts = refl;
     stops = refl;
     within = record { from = omega arith; some = omega (arith, some); to = omega arith };
@@ -93,9 +108,20 @@ module _ (given now : ℕ) (piece : WaitingPiece) (end : Option ℕ) (so_far : S
     unended = λ none. absurd (let both : Some piece.instant ≡ None = sym next ∙ none in cc);
     output = (omega (arith, early, later), gives);
     over = λ last is. absurd (cc);
-    kept = record { drawing = refl; ops = refl; ended = refl; bytes = refl; waiting = (piece ∷ [], refl); count = omega arith; cuts = omega arith; ending = λ last is. absurd (cc) };
+    kept = record {
+      drawing = refl;
+      ops = refl;
+      ended = refl;
+      bytes = refl;
+      waiting = (piece ∷ [], refl);
+      count = omega arith;
+      cuts = omega arith;
+      ending =
+          λ last is. absurd (cc);
+    };
     given_up = λ unknown. record { first = piece.len ∷ []; lens = refl; start = omega arith; before = λ before. omega arith };
-    holds = λ t is ahead. let same : Some t ≡ Some piece.instant = sym is ∙ next in absurd (let at : t ≡ piece.instant = cc in omega (arith, early, later, at, ahead));
+    holds = λ t is ahead. let same : Some t ≡ Some piece.instant = sym is
+        ∙ next in absurd (let at : t ≡ piece.instant = cc in omega (arith, early, later, at, ahead));
     latest = refl;
   }
 
@@ -115,7 +141,8 @@ module _ (given now : ℕ) (end : Option ℕ) (so_far : StreamPosition) (ended :
   known None none was = absurd (let both : true ≡ false = sym was ∙ none in cc)
   known (Some t) some was = refl
 
-  unended : (end : Option ℕ) → core_ending (plain_core given None end so_far) ≡ None → IsUnended [] (remaining_output (plain_core given None end (record so_far { latest = now }))) now
+  unended : (end : Option ℕ) → core_ending (plain_core given None end so_far) ≡ None
+      → IsUnended [] (remaining_output (plain_core given None end (record so_far { latest = now }))) now
   unended None unknown = record {
     quiet = subst (λ items. IsOpenAt now (ending items)) (sym (plain-read given None so_far (Quiet ∷ []))) tt;
     closed = λ closes. subst (λ items. ending items ≢ StillOpen) (sym (plain-read given None so_far (Closed now ∷ []))) (λ same. cc);
@@ -136,13 +163,24 @@ module _ (given now : ℕ) (end : Option ℕ) (so_far : StreamPosition) (ended :
   leaves-later = record { output = λ position since items later stream. same-refl (remaining_output idle_core items); position = refl }
 
   keeps-later : KeepsCore idle_core later_core
-  keeps-later = record { drawing = refl; ops = refl; ended = refl; bytes = refl; waiting = ([], refl); count = omega arith; cuts = omega arith; ending = λ last is. is }
+  keeps-later = record {
+    drawing = refl;
+    ops = refl;
+    ended = refl;
+    bytes = refl;
+    waiting = ([], refl);
+    count = omega arith;
+    cuts = omega arith;
+    ending =
+        λ last is. is;
+  }
 
   after-closed : (t : ℕ) (reached : Bool) → nat_le t now ≡ reached → After idle_core now (if reached then End (ClosedAt t) else WaitUntil t) later_core
   after-closed t true is = leaves-later
   after-closed t false is = (leb-false t now is, leaves-later)
 
-  pub plain-answers : (act : Act) → act ≡ idle_act so_far.ended now None (end_reached None end) → After idle_core now act later_core → Answered idle_core later_core now act
+  pub plain-answers : (act : Act) → act ≡ idle_act so_far.ended now None (end_reached None end) → After idle_core now act later_core
+      → Answered idle_core later_core now act
   plain-answers act is after = record {
     slice = λ t some. absurd (let both : None ≡ Some t = sym (none-next end) ∙ some in cc);
     idle = λ none. is;
@@ -159,9 +197,12 @@ module _ (given now : ℕ) (end : Option ℕ) (so_far : StreamPosition) (ended :
   }
 
 -- the source has ended, or nothing waits
-pub plain-closed : (given now t : ℕ) (so_far : StreamPosition) → so_far.ended ≡ true → Answered (plain_core given None (Some t) so_far) (plain_core given None (Some t) (record so_far { latest = now })) now (end_act true now (ClosedAt t))
+pub plain-closed : (given now t : ℕ) (so_far : StreamPosition) → so_far.ended ≡ true
+    → Answered (plain_core given None (Some t) so_far) (plain_core given None (Some t) (record so_far { latest = now })) now (end_act true now (ClosedAt t))
 plain-closed given now t so_far ended =
-    plain-answers given now (Some t) so_far ended _ (ap (λ ended. end_act ended now (ClosedAt t)) (sym ended)) (after-closed given now (Some t) so_far ended t (nat_le t now) refl)
+    plain-answers given now (Some t) so_far ended _ (ap (λ ended. end_act ended now (ClosedAt t)) (sym ended))
+    (after-closed given now (Some t) so_far ended t (nat_le t now) refl)
 
-pub plain-quiet : (given now : ℕ) (so_far : StreamPosition) → so_far.ended ≡ false → Answered (plain_core given None None so_far) (plain_core given None None (record so_far { latest = now })) now WaitForInput
+pub plain-quiet : (given now : ℕ) (so_far : StreamPosition) → so_far.ended ≡ false
+    → Answered (plain_core given None None so_far) (plain_core given None None (record so_far { latest = now })) now WaitForInput
 plain-quiet given now so_far ended = plain-answers given now None so_far ended _ refl (leaves-later given now None so_far ended)

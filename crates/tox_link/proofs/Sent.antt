@@ -21,11 +21,13 @@ pub prepend-append : (xs ys : List ℕ) (known : Option (List ℕ)) → prepend_
 prepend-append xs ys None = refl
 prepend-append xs ys (Some zs) = ap Some (append_assoc xs ys zs)
 
-pub prepend_more : (xs ys : List ℕ) (before between after : Option (List ℕ)) → before ≡ prepend_known xs between → between ≡ prepend_known ys after → before ≡ prepend_known (xs ++ ys) after
+pub prepend_more : (xs ys : List ℕ) (before between after : Option (List ℕ)) → before ≡ prepend_known xs between → between ≡ prepend_known ys after
+    → before ≡ prepend_known (xs ++ ys) after
 prepend_more xs ys before between after first second = first ∙ ap (prepend_known xs) second ∙ sym (prepend-append xs ys after)
 
 -- the bytes after one more message
-pub sent_more : (xs ys : List Message) (message : Message) (bytes : List ℕ) → ys ≡ xs ++ message ∷ [] → bytes_of (message ∷ []) ≡ bytes → bytes_of ys ≡ bytes_of xs ++ bytes
+pub sent_more : (xs ys : List Message) (message : Message) (bytes : List ℕ) → ys ≡ xs ++ message ∷ [] → bytes_of (message ∷ []) ≡ bytes
+    → bytes_of ys ≡ bytes_of xs ++ bytes
 sent_more xs ys message bytes more one = ap bytes_of more ∙ bytes_of-append xs (message ∷ []) ∙ ap (λ bytes. bytes_of xs ++ bytes) one
 
 -- an end has no bytes

@@ -43,7 +43,8 @@ IsSettledFrom means now log = (rest : List Item) → IsStreamFrom (heard_bytes l
 
 -- a link with this log took and wrote so many bytes, and ended so and with its source so: it said all that the plan means for
 -- what was heard, and the clock reported this instant, at or past its ending and each reading, from which on nothing changes it
-pub record ReportsAt (means : List Item → List Item) (reported : ℕ → Type 0) (log : List LinkEvent) (taken written : ℕ) (last : Ending) (source : Option ReadEnd) (now : ℕ) : Type 0 where
+pub record ReportsAt (means : List Item → List Item) (reported : ℕ → Type 0) (log : List LinkEvent) (taken written : ℕ) (last : Ending)
+    (source : Option ReadEnd) (now : ℕ) : Type 0 where
   pub faithful : IsFaithful means reported log
   pub whole : slices_table (said log) ≡ table (means (heard log))
   pub ends : ending (means (heard log)) ≡ last

@@ -3,7 +3,8 @@ use Rattle.std.specs.Prelude.{Option, Some, None}
 use Rattle.tox_link.specs.declared.ring.message.ReadEnd.{ReadEnd}
 use Rattle.tox_link.specs.declared.ring.message.ReadEnd.TheVariants.{Eof, ReadFault, ReadsUsedUp, TooManyBytes}
 use Rattle.tox_link.specs.declared.source_ending.SourceEnding.{SourceEnding}
-use Rattle.tox_link.specs.declared.source_ending.SourceEnding.TheVariants.{Eof as AtEof, ReadFault as AtFault, ReadsUsedUp as AtLastRead, TooManyBytes as AtLimit, NotReached}
+use Rattle.tox_link.specs.declared.source_ending.SourceEnding.TheVariants.{Eof as AtEof, ReadFault as AtFault, ReadsUsedUp as AtLastRead}
+use Rattle.tox_link.specs.declared.source_ending.SourceEnding.TheVariants.{TooManyBytes as AtLimit, NotReached}
 
 -- why the reading ended, if the link learnt of it in time
 abbrev pub read_end_of : SourceEnding → Option ReadEnd

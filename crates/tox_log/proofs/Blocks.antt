@@ -1,5 +1,6 @@
 -- Ranges of a block.
-use Rattle.std.proofs.Common.{◌≡◌, true, slice_index, ◌==◌, ℕ, ◌+◌, ◌-◌, ◌<◌, ◌≤◌, List, [], ◌∷◌, ◌++◌, length, get_or, take, drop, slice_range, ap, sym, subst, ◌∙◌, arith}
+use Rattle.std.proofs.Common.{◌≡◌, true, slice_index, ◌==◌, ℕ, ◌+◌, ◌-◌, ◌<◌, ◌≤◌, List, [], ◌∷◌, ◌++◌, length, get_or, take, drop, slice_range, ap, sym, subst}
+use Rattle.std.proofs.Common.{◌∙◌, arith}
 use Rattle.std.proofs.lemmas.List.{drop-drop, drop-take, drop_more, length-take, take-append-drop, take_all}
 use Rattle.std.specs.Prelude.{◌≢◌}
 use Rattle.std.proofs.lemmas.Bool.Decides.{nat_tests}
@@ -31,7 +32,8 @@ range-none xs at = let none : at - at ≡ 0 = omega arith in ap (λ n. take n (d
 
 -- a byte that stands nowhere before a place
 pub lacks-before : (byte : ℕ) (xs : List ℕ) (place : ℕ) → place ≤ length xs → Nowhere (Passes (is_byte byte) xs) 0 place → Lacks byte (take place xs)
-lacks-before byte xs place within nowhere = All-from_get_or (λ other. other ≢ byte) (take place xs) 0 (λ i below same. nowhere i (omega arith) (before i below) (passes i (before i below) (sym (front i (before i below)) ∙ same)))
+lacks-before byte xs place within nowhere = All-from_get_or (λ other. other ≢ byte) (take place xs) 0
+    (λ i below same. nowhere i (omega arith) (before i below) (passes i (before i below) (sym (front i (before i below)) ∙ same)))
   where
     before : (i : ℕ) → i < length (take place xs) → i < place
     before i below = omega (arith, below, length-take place xs)

@@ -43,5 +43,6 @@ cause_found name = tells _ (find_tells is_named all_causes)
     is_named cause = bytes_eq (cause_name cause) name
 
     tells : (found : Option BreakCause) → Finds is_named found all_causes → MeansCause name found
-    tells None none = λ cause same. not_from_Decides (is_named cause) (bytes_eq-Decides (cause_name cause) name) (each_of (λ c. is_named c ≡ false) none cause) (sym same)
+    tells None none = λ cause same. not_from_Decides (is_named cause) (bytes_eq-Decides (cause_name cause) name) (each_of (λ c. is_named c ≡ false) none cause)
+        (sym same)
     tells (Some cause) is = sym ((bytes_eq-Decides (cause_name cause) name).0 is)

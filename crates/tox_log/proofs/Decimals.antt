@@ -1,5 +1,6 @@
 -- Numbers without leading zeros are read back, and nothing else is.
-use Rattle.std.proofs.Common.{zero, suc, ◌≡◌, ℕ, ◌^◌, ◌<◌, ◌≤◌, Bool, true, false, List, length, Option, Some, None, get_or, IsUtf8, refl, ap, sym, ◌∙◌, arith, MatchOption}
+use Rattle.std.proofs.Common.{zero, suc, ◌≡◌, ℕ, ◌^◌, ◌<◌, ◌≤◌, Bool, true, false, List, length, Option, Some, None, get_or, IsUtf8, refl, ap, sym, ◌∙◌, arith}
+use Rattle.std.proofs.Common.{MatchOption}
 use Rattle.std.specs.Prelude.{◌≢◌, ◌&&◌, nat_le, nat_lt, if◌then◌else◌}
 use Rattle.std.specs.Char.{is_ascii_digit}
 use Rattle.std.specs.Fmt.{decimal}
@@ -36,7 +37,8 @@ pub decimal-value : (greatest n : ℕ) (text : List ℕ) → greatest < 2 ^ 64 �
     → (n ≤ greatest) × (text ≡ decimal n)
 decimal-value greatest n text fits lead read = by (is_decimal 20 text) (nat_le (digits_value 10 text) greatest) refl refl read
   where
-    by : (are : Bool) (within : Bool) → is_decimal 20 text ≡ are → nat_le (digits_value 10 text) greatest ≡ within → (if (are && within) then Some (digits_value 10 text) else None) ≡ Some n
+    by : (are : Bool) (within : Bool) → is_decimal 20 text ≡ are → nat_le (digits_value 10 text) greatest ≡ within
+        → (if (are && within) then Some (digits_value 10 text) else None) ≡ Some n
         → (n ≤ greatest) × (text ≡ decimal n)
     by true true are within read =
         let value : digits_value 10 text ≡ n = cc in
@@ -44,13 +46,15 @@ decimal-value greatest n text fits lead read = by (is_decimal 20 text) (nat_le (
         let parts = and_parts (is_sized 20 text) (list_all is_ascii_digit text) are in
         let some : 0 < length text = sized text parts.0 in (
           omega (arith, value, below),
-          sym (ap decimal (sym value) ∙ decimal-digits_value ascii_digits text parts.1 some (λ zero_first. omega (arith, lead zero_first, some)) (omega (arith, below))),
+          sym (ap decimal (sym value) ∙ decimal-digits_value ascii_digits text parts.1 some (λ zero_first. omega (arith, lead zero_first, some))
+              (omega (arith, below))),
         )
     by true false are within read = absurd (cc)
     by false within are out read = absurd (cc)
 
 -- what is read of a text, where it has no leading zero
-pub read-number : (greatest : ℕ) (text : List ℕ) (read : Option ℕ) → greatest < 2 ^ 64 → (get_or text 0 0 ≡ 48 → length text ≤ 1) → read ≡ decimal_value 20 greatest text
+pub read-number : (greatest : ℕ) (text : List ℕ) (read : Option ℕ) → greatest < 2 ^ 64 → (get_or text 0 0 ≡ 48 → length text ≤ 1)
+    → read ≡ decimal_value 20 greatest text
     → MatchOption read ((n : ℕ) → n ≤ greatest → text ≢ decimal n) (λ n. (n ≤ greatest) × (text ≡ decimal n))
 read-number greatest text (Some n) fits lead is = decimal-value greatest n text fits lead (sym is)
 read-number greatest text None fits lead is = λ n within same.

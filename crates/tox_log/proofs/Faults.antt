@@ -4,7 +4,8 @@ use Rattle.std.specs.Prelude.{MatchResult, IsErrAnd}
 use Rattle.tox_log.specs.declared.fault.LogFault.{LogFault}
 use Rattle.tox_log.specs.Left.{BlamesNoLine, IsNoBadLine, IsNotTooDeep}
 
-pub failed-so : {T E : Type 0} (result : Result T E) (P : T → Type 0) (Q R : E → Type 0) → IsErrAnd result R → ((fault : E) → R fault → Q fault) → MatchResult result P Q
+pub failed-so : {T E : Type 0} (result : Result T E) (P : T → Type 0) (Q R : E → Type 0) → IsErrAnd result R → ((fault : E) → R fault → Q fault)
+    → MatchResult result P Q
 failed-so (Ok x) P Q R errs implies = absurd errs
 failed-so (Err fault) P Q R errs implies = implies fault errs
 

@@ -1,5 +1,6 @@
 -- The lines of a header are read as they are printed.
-use Rattle.std.proofs.Common.{◌≡◌, ℕ, ◌^◌, ◌<◌, Bool, true, false, Option, Some, None, MatchOption, IsUtf8, List, [], ◌∷◌, ◌++◌, codes, drop, refl, ap, sym, subst, ◌∙◌, append_assoc, arith}
+use Rattle.std.proofs.Common.{◌≡◌, ℕ, ◌^◌, ◌<◌, Bool, true, false, Option, Some, None, MatchOption, IsUtf8, List, [], ◌∷◌, ◌++◌, codes, drop, refl, ap, sym}
+use Rattle.std.proofs.Common.{subst, ◌∙◌, append_assoc, arith}
 use Rattle.std.specs.Fmt.{decimal}
 use Rattle.std.specs.Prelude.{◌≢◌, is_some}
 use Rattle.std.proofs.lemmas.Fmt.{decimal_injective}
@@ -42,7 +43,8 @@ same-lanes ThirtyTwo Sixteen same = absurd (omega (arith, same))
 same-lanes ThirtyTwo ThirtyTwo same = refl
 
 pub link-is : (line name : List ℕ) (number : ℕ) (direction : Stream) → PrintsLink line name number direction → line ≡ link_words name number direction
-link-is line name number direction prints = append_cancel_right line (link_words name number direction) (10 ∷ []) (prints.printed ∙ sym (link-parts name number direction))
+link-is line name number direction prints = append_cancel_right line (link_words name number direction) (10 ∷ [])
+    (prints.printed ∙ sym (link-parts name number direction))
 
 -- behind its first word
 pub link-rest : (line rest name : List ℕ) (number : ℕ) (direction : Stream) → PrintsLink line name number direction → rest ≡ drop 5 line
@@ -50,14 +52,17 @@ pub link-rest : (line rest name : List ℕ) (number : ℕ) (direction : Stream) 
 link-rest line rest name number direction prints is = is ∙ ap (drop 5) (link-is line name number direction prints)
 
 -- cut at its last space
-pub link-cut : (rest front tail name : List ℕ) (number : ℕ) (direction : Stream) → rest ≡ (name ++ 32 ∷ decimal number) ++ 32 ∷ stream_name direction → Lacks 32 tail → rest ≡ front ++ 32 ∷ tail
+pub link-cut : (rest front tail name : List ℕ) (number : ℕ) (direction : Stream) → rest ≡ (name ++ 32 ∷ decimal number) ++ 32 ∷ stream_name direction
+    → Lacks 32 tail → rest ≡ front ++ 32 ∷ tail
     → (front ≡ name ++ 32 ∷ decimal number) × (tail ≡ stream_name direction)
-link-cut rest front tail name number direction is lacks cut = cut-last 32 front tail (name ++ 32 ∷ decimal number) (stream_name direction) lacks (stream-lacks direction) (sym cut ∙ is)
+link-cut rest front tail name number direction is lacks cut = cut-last 32 front tail (name ++ 32 ∷ decimal number) (stream_name direction) lacks
+    (stream-lacks direction) (sym cut ∙ is)
 
 -- and at the one before
 pub name-cut : (rest front tail name : List ℕ) (number : ℕ) → number < 2 ^ 64 → rest ≡ name ++ 32 ∷ decimal number → Lacks 32 tail → rest ≡ front ++ 32 ∷ tail
     → (front ≡ name) × (tail ≡ decimal number)
-name-cut rest front tail name number fits is lacks cut = cut-last 32 front tail name (decimal number) lacks (number-lacks 32 number (omega arith) fits) (sym cut ∙ is)
+name-cut rest front tail name number fits is lacks cut = cut-last 32 front tail name (decimal number) lacks (number-lacks 32 number (omega arith) fits)
+    (sym cut ∙ is)
 
 -- a text that has a space can be cut
 pub no-cut : (rest front tail : List ℕ) → Lacks 32 rest → rest ≡ front ++ 32 ∷ tail → ⊥
@@ -66,10 +71,12 @@ no-cut rest front tail lacks is = stands 32 front tail (subst (Lacks 32) is lack
 pub seed-is : (line : List ℕ) (lanes : Lanes) (seed : ℕ) → line ++ 10 ∷ [] ≡ seed_line lanes seed → line ≡ seed_words lanes seed
 seed-is line lanes seed same = append_cancel_right line (seed_words lanes seed) (10 ∷ []) (same ∙ sym (seed-parts lanes seed))
 
-pub seed-cut : (rest count more : List ℕ) (lanes : Lanes) (seed : ℕ) → rest ≡ decimal (lane_count lanes) ++ 32 ∷ (codes "seed " ++ decimal seed) → Lacks 32 count → rest ≡ count ++ 32 ∷ more
+pub seed-cut : (rest count more : List ℕ) (lanes : Lanes) (seed : ℕ) → rest ≡ decimal (lane_count lanes) ++ 32 ∷ (codes "seed " ++ decimal seed)
+    → Lacks 32 count → rest ≡ count ++ 32 ∷ more
     → (count ≡ decimal (lane_count lanes)) × (more ≡ codes "seed " ++ decimal seed)
 seed-cut rest count more lanes seed is lacks cut =
-    cut-once 32 count more (decimal (lane_count lanes)) (codes "seed " ++ decimal seed) lacks (number-lacks 32 (lane_count lanes) (omega arith) (omega (arith, lane_count-most lanes))) (sym cut ∙ is)
+    cut-once 32 count more (decimal (lane_count lanes)) (codes "seed " ++ decimal seed) lacks
+    (number-lacks 32 (lane_count lanes) (omega arith) (omega (arith, lane_count-most lanes))) (sym cut ∙ is)
 
 pub toxic-is : (line : List ℕ) (named : Entry × List ℕ) → PrintsToxic line named → line ≡ toxic_words named
 toxic-is line named prints = append_cancel_right line (toxic_words named) (10 ∷ []) (prints.printed ∙ sym (toxic-parts named))
@@ -87,20 +94,24 @@ toxic-cut line short name named prints lacks cut =
     spaced form = simp append_assoc
 
 -- the words of the second line
-pub link-whole : (line rest front tail first digits name : List ℕ) (number : ℕ) (direction : Stream) → PrintsLink line name number direction → rest ≡ drop 5 line
-    → Lacks 32 tail × (rest ≡ front ++ 32 ∷ tail) → Lacks 32 digits × (front ≡ first ++ 32 ∷ digits) → (first ≡ name) × (digits ≡ decimal number) × (tail ≡ stream_name direction)
+pub link-whole : (line rest front tail first digits name : List ℕ) (number : ℕ) (direction : Stream) → PrintsLink line name number direction
+    → rest ≡ drop 5 line
+    → Lacks 32 tail × (rest ≡ front ++ 32 ∷ tail) → Lacks 32 digits × (front ≡ first ++ 32 ∷ digits)
+    → (first ≡ name) × (digits ≡ decimal number) × (tail ≡ stream_name direction)
 link-whole line rest front tail first digits name number direction prints is last cut =
     let parts = link-cut rest front tail name number direction (link-rest line rest name number direction prints is) last.0 last.1 in
     let names = name-cut front first digits name number (omega (arith, prints.numbered.1)) parts.0 cut.0 cut.1 in
     (names.0, names.1, parts.1)
 
 -- the words of a toxic's line
-pub toxic-spaced : (line : List ℕ) (named : Entry × List ℕ) → PrintsToxic line named → line ≡ codes "toxic " ++ printed_short named.0.toxic named.0.toxicity ++ 32 ∷ named.1
+pub toxic-spaced : (line : List ℕ) (named : Entry × List ℕ) → PrintsToxic line named
+    → line ≡ codes "toxic " ++ printed_short named.0.toxic named.0.toxicity ++ 32 ∷ named.1
 toxic-spaced line named prints = toxic-is line named prints ∙ simp append_assoc
 
 pub words-read : {A : Type 0} (read : Option A) (first second : A → List ℕ) (line rest : List ℕ) → rest ≡ drop 6 line → line ≡ codes "toxic " ++ rest
     → MatchOption read (Lacks 32 rest) (λ p. Lacks 32 (first p) × (rest ≡ first p ++ 32 ∷ second p))
-    → MatchOption read ((short name : List ℕ) → line ≢ codes "toxic " ++ short ++ 32 ∷ name) (λ p. Lacks 32 (first p) × (line ≡ codes "toxic " ++ first p ++ 32 ∷ second p))
+    → MatchOption read ((short name : List ℕ) → line ≢ codes "toxic " ++ short ++ 32 ∷ name)
+    (λ p. Lacks 32 (first p) × (line ≡ codes "toxic " ++ first p ++ 32 ∷ second p))
 words-read None first second line rest is whole lacks = λ short name same. stands 32 short name (subst (Lacks 32) (is ∙ ap (drop 6) same) lacks)
 words-read (Some p) first second line rest is whole cut = (cut.0, whole ∙ ap (λ rest. codes "toxic " ++ rest) cut.1)
 
@@ -110,17 +121,20 @@ stream-utf8 Upstream = signs-utf8 (codes "upstream") refl
 stream-utf8 Downstream = signs-utf8 (codes "downstream") refl
 
 -- a name that isn't read
-pub no-name : {A : Type 0} (read : Option A) (text : List ℕ) (P : A → Type 0) → is_some read ≡ false → MatchOption read (¬ IsWritableName text) P → ¬ IsWritableName text
+pub no-name : {A : Type 0} (read : Option A) (text : List ℕ) (P : A → Type 0) → is_some read ≡ false → MatchOption read (¬ IsWritableName text) P
+    → ¬ IsWritableName text
 no-name None text P none refused = refused
 no-name (Some a) text P none refused = absurd (cc)
 
 -- the words of the third line
-pub seed-whole : (line rest count more : List ℕ) (lanes : Lanes) (seed : ℕ) → line ++ 10 ∷ [] ≡ seed_line lanes seed → rest ≡ drop 6 line → Lacks 32 count × (rest ≡ count ++ 32 ∷ more)
+pub seed-whole : (line rest count more : List ℕ) (lanes : Lanes) (seed : ℕ) → line ++ 10 ∷ [] ≡ seed_line lanes seed → rest ≡ drop 6 line
+    → Lacks 32 count × (rest ≡ count ++ 32 ∷ more)
     → (count ≡ decimal (lane_count lanes)) × (more ≡ codes "seed " ++ decimal seed)
 seed-whole line rest count more lanes seed same is cut = seed-cut rest count more lanes seed (is ∙ ap (drop 6) (seed-is line lanes seed same)) cut.0 cut.1
 
 pub lanes-read : (a b : Lanes) → decimal (lane_count a) ≡ decimal (lane_count b) → a ≡ b
-lanes-read a b same = same-lanes a b (decimal_injective (lane_count a) (lane_count b) (omega (arith, lane_count-most a)) (omega (arith, lane_count-most b)) same)
+lanes-read a b same = same-lanes a b (decimal_injective (lane_count a) (lane_count b) (omega (arith, lane_count-most a)) (omega (arith, lane_count-most b))
+    same)
 
 pub value-of : {A : Type 0} (a b : A) → Some a ≡ Some b → a ≡ b
 value-of a b same = cc
@@ -140,7 +154,8 @@ long-line read long P none is short =
     let same : true ≡ false = sym too_long ∙ short in cc
 
 -- the lines of a log that can be written
-pub prints-link : (line : List ℕ) (log : WrittenLog) → IsWritableLog log → line ≡ link_words log.name log.number log.stream → PrintsLink line log.name log.number log.stream
+pub prints-link : (line : List ℕ) (log : WrittenLog) → IsWritableLog log → line ≡ link_words log.name log.number log.stream
+    → PrintsLink line log.name log.number log.stream
 prints-link line log writable is = record {
   named = writable.name;
   numbered = writable.number;

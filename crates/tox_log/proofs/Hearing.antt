@@ -1,5 +1,6 @@
 -- A line more is heard.
-use Rattle.std.proofs.Common.{◌≡◌, ℕ, All, Bool, true, false, List, [], ◌∷◌, ◌++◌, ◌+◌, ◌-◌, ◌<◌, ◌≤◌, ◌^◌, is_some, length, string_bytes, Option, Some, None, inl, inr, refl, sym, ap, ap₂, subst, ◌∙◌, append_assoc, append-nil, arith}
+use Rattle.std.proofs.Common.{◌≡◌, ℕ, All, Bool, true, false, List, [], ◌∷◌, ◌++◌, ◌+◌, ◌-◌, ◌<◌, ◌≤◌, ◌^◌, is_some, length, string_bytes, Option, Some, None}
+use Rattle.std.proofs.Common.{inl, inr, refl, sym, ap, ap₂, subst, ◌∙◌, append_assoc, append-nil, arith}
 use Rattle.std.specs.Prelude.{◌⊎◌}
 use Rattle.std.specs.Io.KnownBytes.{IsAtEnd, prepend_known}
 use Rattle.std.proofs.lemmas.List.{length-append}
@@ -39,7 +40,8 @@ use Rattle.tox_log.specs.Lines.{IsWritable, line_words}
 use Rattle.tox_log.specs.Judging.{Hears, Judged, Refuses, RefusesEnding, source_heard}
 use Rattle.tox_log.specs.declared.replay.Verdict.{Verdict}
 use Rattle.tox_log.specs.declared.replay.Verdict.TheVariants.{Faithful, Unfinished, Unfaithful}
-use Rattle.tox_log.specs.Hearing.{AreCounts, BeginsJudging, HasHeard, HasNoEnding, HasReport, HasStopped, HearsLine, HearsToEnd, IsFaithfulText, IsRefusedText, IsTextOf, AreReported, IsUnfinishedText, SaysOf, SaysSo, HasRefusal, source_end_of}
+use Rattle.tox_log.specs.Hearing.{AreCounts, BeginsJudging, HasHeard, HasNoEnding, HasReport, HasStopped, HearsLine, HearsToEnd, IsFaithfulText, IsRefusedText}
+use Rattle.tox_log.specs.Hearing.{IsTextOf, AreReported, IsUnfinishedText, SaysOf, SaysSo, HasRefusal, source_end_of}
 use Rattle.tox_log.proofs.Refusing.{timely-reported}
 
 reported-front : (reported : ℕ → Bool) (events : List LinkEvent) (event : LinkEvent) → AreReported reported (events ++ event ∷ []) → AreReported reported events
@@ -49,9 +51,11 @@ reported-front reported (first ∷ events) event all =
     (All-head (λ event. reported (reading_of event) ≡ true) first (events ++ event ∷ []) all)
     (reported-front reported events event (All-tail (λ event. reported (reading_of event) ≡ true) first (events ++ event ∷ []) all))
 
-reported-last : (reported : ℕ → Bool) (events : List LinkEvent) (event : LinkEvent) → AreReported reported (events ++ event ∷ []) → reported (reading_of event) ≡ true
+reported-last : (reported : ℕ → Bool) (events : List LinkEvent) (event : LinkEvent) → AreReported reported (events ++ event ∷ [])
+    → reported (reading_of event) ≡ true
 reported-last reported [] event all = All-head (λ event. reported (reading_of event) ≡ true) event [] all
-reported-last reported (first ∷ events) event all = reported-last reported events event (All-tail (λ event. reported (reading_of event) ≡ true) first (events ++ event ∷ []) all)
+reported-last reported (first ∷ events) event all = reported-last reported events event
+    (All-tail (λ event. reported (reading_of event) ≡ true) first (events ++ event ∷ []) all)
 
 line-more : (reset : Bool) (text : List ℕ) (events : List LinkEvent) (event : LinkEvent) → text ≡ event_lines reset events
     → text ++ (line_words (logged_line reset event) ++ 10 ∷ []) ≡ event_lines reset (events ++ event ∷ [])
@@ -81,7 +85,8 @@ lines-going reset other (Wrote slice reading ∷ events) going =
     same-write false false = refl
 
 -- so the lines before stay, and the line of an event comes behind them
-pub line-next : (old new : Bool) (text : List ℕ) (events : List LinkEvent) (event : LinkEvent) → (new ≡ old) ⊎ (has_source_end events ≡ false) → text ≡ event_lines old events
+pub line-next : (old new : Bool) (text : List ℕ) (events : List LinkEvent) (event : LinkEvent) → (new ≡ old) ⊎ (has_source_end events ≡ false)
+    → text ≡ event_lines old events
     → text ++ (line_words (logged_line new event) ++ 10 ∷ []) ≡ event_lines new (events ++ event ∷ [])
 line-next old new text events event (inl same) lines = line-more new text events event (lines ∙ ap (λ reset. event_lines reset events) (sym same))
 line-next old new text events event (inr going) lines = line-more new text events event (lines ∙ lines-going old new events going)
@@ -105,7 +110,8 @@ counts-of means text hearing heard =
     }
 
 -- slices without gaps are no more than the positions that they span
-few-slices : (start : ℕ) (events : List LinkEvent) (stop : ℕ) → All (λ event. IsWritable (Event event)) events → IsGapless start (said events) stop → start ≤ 2 ^ 40
+few-slices : (start : ℕ) (events : List LinkEvent) (stop : ℕ) → All (λ event. IsWritable (Event event)) events → IsGapless start (said events) stop
+    → start ≤ 2 ^ 40
     → (start + length (said events) ≤ stop) × (stop ≤ 2 ^ 40)
 few-slices start [] stop written gapless small = (omega (arith, gapless), omega (arith, gapless, small))
 few-slices start (Piece len instant ∷ events) stop written gapless small =
@@ -153,7 +159,8 @@ end-heard (SourceEnd instant ∷ events) = refl
 end-heard (Wrote slice reading ∷ events) = end-heard events
 
 -- the source's end of events and one more
-pub source-same : (events : List LinkEvent) (event : LinkEvent) → source_end_of (event ∷ []) ≡ None → source_end_of (events ++ event ∷ []) ≡ source_end_of events
+pub source-same : (events : List LinkEvent) (event : LinkEvent) → source_end_of (event ∷ []) ≡ None
+    → source_end_of (events ++ event ∷ []) ≡ source_end_of events
 source-same [] event none = none
 source-same (Piece len t ∷ events) event none = source-same events event none
 source-same (SourceEnd t ∷ events) event none = refl
@@ -169,7 +176,8 @@ source-ends (Wrote slice now ∷ events) t going = source-ends events t going
 pub record GoesOn (old new : Hearing) (event : LinkEvent) : Type 0 where
   pub hears : Hears old.judge event new.judge
   pub reset : (new.source_reset ≡ old.source_reset) ⊎ (old.judge.ended ≡ false)
-  pub ends : (events : List LinkEvent) → source_end_of events ≡ old.source_end → has_source_end events ≡ old.judge.ended → source_end_of (events ++ event ∷ []) ≡ new.source_end
+  pub ends : (events : List LinkEvent) → source_end_of events ≡ old.source_end → has_source_end events ≡ old.judge.ended
+      → source_end_of (events ++ event ∷ []) ≡ new.source_end
   pub count : new.writes ≡ old.writes + length (said (event ∷ []))
   pub late : KeepsMore old.late (lates (event ∷ [])) new.late
 
@@ -200,14 +208,16 @@ hears-event means text old new event writable heard goes = record {
   source_end =
       let judged : Judged means (λ _. true) old.judge heard.events = heard.judged (λ _. true) (all-reported heard.events) in
       goes.ends heard.events heard.source_end judged.closed;
-  judged = λ reported all. goes.hears means reported heard.events (reported-last reported heard.events event all) (heard.judged reported (reported-front reported heard.events event all));
+  judged = λ reported all. goes.hears means reported heard.events (reported-last reported heard.events event all)
+      (heard.judged reported (reported-front reported heard.events event all));
   count =
       let both = length-append (said heard.events) (said (event ∷ [])) in
       ap length (said-append heard.events (event ∷ [])) ∙ omega (arith, both, heard.count, goes.count);
   late =
       let few = few-writes means text old heard in
       let same = lates-count heard.events in
-      subst (λ values. KeepsLate values new.late) (sym (lates-append heard.events (event ∷ []))) (goes.late (lates heard.events) (omega (arith, few, same, heard.count)) heard.late);
+      subst (λ values. KeepsLate values new.late) (sym (lates-append heard.events (event ∷ [])))
+      (goes.late (lates heard.events) (omega (arith, few, same, heard.count)) heard.late);
 }
   where
     stays-so : (new.source_reset ≡ old.source_reset) ⊎ (old.judge.ended ≡ false) → (new.source_reset ≡ old.source_reset) ⊎ (has_source_end heard.events ≡ false)
@@ -217,16 +227,19 @@ hears-event means text old new event writable heard goes = record {
         inr (judged.closed ∙ going)
 
 -- a verdict that stays open after the line of an event
-pub says-event : (start : ℕ) (means : List Item → List Item) (text : List ℕ) (old new : Hearing) (event : LinkEvent) (line : LogLine) → logged_line new.source_reset event ≡ line → new.verdict ≡ Unfinished → new.broken ≡ None
+pub says-event : (start : ℕ) (means : List Item → List Item) (text : List ℕ) (old new : Hearing) (event : LinkEvent) (line : LogLine)
+    → logged_line new.source_reset event ≡ line → new.verdict ≡ Unfinished → new.broken ≡ None
     → GoesOn old new event → IsWritable line → HasHeard means text old → SaysOf start means (text ++ (line_words line ++ 10 ∷ [])) false new
 says-event start means text old new event line is going whole goes writable heard =
     let lines : List ℕ = text ++ (line_words line ++ 10 ∷ []) in
-    let more : HasHeard means lines new = subst (λ line. HasHeard means (text ++ (line_words line ++ 10 ∷ [])) new) is (hears-event means text old new event (subst IsWritable (sym is) writable) heard goes) in
+    let more : HasHeard means lines new = subst (λ line. HasHeard means (text ++ (line_words line ++ 10 ∷ [])) new) is
+    (hears-event means text old new event (subst IsWritable (sym is) writable) heard goes) in
     let going_on : HasNoEnding means lines false new None = inl (refl, more) in
     subst (SaysSo start means lines false new) (sym going) (subst (HasNoEnding means lines false new) (sym whole) going_on)
 
 -- an event that no faithful log has here
-pub says-refused : (start : ℕ) (means : List Item → List Item) (text : List ℕ) (old new : Hearing) (event : LinkEvent) (number : ℕ) → new.broken ≡ None → Refuses old.judge event
+pub says-refused : (start : ℕ) (means : List Item → List Item) (text : List ℕ) (old new : Hearing) (event : LinkEvent) (number : ℕ) → new.broken ≡ None
+    → Refuses old.judge event
     → IsWritable (Event event) → (heard : HasHeard means text old) → IsLineNumber number (start + length heard.events)
     → SaysSo start means (text ++ (line_words (Event event) ++ 10 ∷ [])) false new (Unfaithful number)
 says-refused start means text old new event number whole refuses writable heard at = (
@@ -238,7 +251,8 @@ says-refused start means text old new event number whole refuses writable heard 
     reset = old.source_reset;
     line = Event event;
     more = [];
-    lines = ap (λ lines. lines ++ (line_words (Event event) ++ 10 ∷ [])) heard.lines ∙ ap (λ line. event_lines old.source_reset heard.events ++ line) (sym (append-nil (line_words (Event event) ++ 10 ∷ [])));
+    lines = ap (λ lines. lines ++ (line_words (Event event) ++ 10 ∷ [])) heard.lines
+        ∙ ap (λ line. event_lines old.source_reset heard.events ++ line) (sym (append-nil (line_words (Event event) ++ 10 ∷ [])));
     faithful = λ reported all. (heard.judged reported all).faithful;
     numbered = at;
     refused = λ reported faithful. refuses means reported heard.events
@@ -247,7 +261,8 @@ says-refused start means text old new event number whole refuses writable heard 
 )
 
 -- an ending that no link with these events reports
-pub says-other-end : (start : ℕ) (means : List Item → List Item) (text : List ℕ) (old new : Hearing) (reading : ℕ) (last : Ending) (number : ℕ) → new.broken ≡ None → RefusesEnding old.judge reading last
+pub says-other-end : (start : ℕ) (means : List Item → List Item) (text : List ℕ) (old new : Hearing) (reading : ℕ) (last : Ending) (number : ℕ)
+    → new.broken ≡ None → RefusesEnding old.judge reading last
     → IsWritable (Last (Ended reading last)) → (heard : HasHeard means text old) → IsLineNumber number (start + length heard.events)
     → SaysSo start means (text ++ (line_words (Last (Ended reading last)) ++ 10 ∷ [])) true new (Unfaithful number)
 says-other-end start means text old new reading last number whole refuses writable heard at =
@@ -263,12 +278,14 @@ says-other-end start means text old new reading last number whole refuses writab
         lines = ap (λ lines. lines ++ words) heard.lines ∙ ap (λ line. event_lines old.source_reset heard.events ++ line) (sym (append-nil words));
         faithful = λ reported all. (heard.judged reported all).faithful;
         numbered = at;
-        refused = λ reported taken written source report. refuses means reported heard.events (heard.judged reported (timely-reported reported 0 heard.events report.faithful.timely)) taken written source report;
+        refused = λ reported taken written source report. refuses means reported heard.events
+            (heard.judged reported (timely-reported reported 0 heard.events report.faithful.timely)) taken written source report;
       },
     )
 
 -- what a hearing keeps of the same judge, source's end, writes and lateness
-same-heard : (means : List Item → List Item) (text : List ℕ) (old new : Hearing) → new.judge ≡ old.judge → new.source_end ≡ old.source_end → new.source_reset ≡ old.source_reset → new.writes ≡ old.writes → new.late ≡ old.late
+same-heard : (means : List Item → List Item) (text : List ℕ) (old new : Hearing) → new.judge ≡ old.judge → new.source_end ≡ old.source_end
+    → new.source_reset ≡ old.source_reset → new.writes ≡ old.writes → new.late ≡ old.late
     → HasHeard means text old → HasHeard means text new
 same-heard means text old new judge source_end reset writes late heard = record {
   events = heard.events;
@@ -281,16 +298,22 @@ same-heard means text old new judge source_end reset writes late heard = record 
 }
 
 -- the last line tells that the stream broke off
-pub says-broken : (start : ℕ) (means : List Item → List Item) (text : List ℕ) (old new : Hearing) (cause : BreakCause) (bytes : ℕ) → new.verdict ≡ Unfinished → new.broken ≡ Some cause
-    → new.judge ≡ old.judge → new.source_end ≡ old.source_end → new.source_reset ≡ old.source_reset → new.writes ≡ old.writes → new.late ≡ old.late → HasHeard means text old
+pub says-broken : (start : ℕ) (means : List Item → List Item) (text : List ℕ) (old new : Hearing) (cause : BreakCause) (bytes : ℕ) → new.verdict ≡ Unfinished
+    → new.broken ≡ Some cause
+    → new.judge ≡ old.judge → new.source_end ≡ old.source_end → new.source_reset ≡ old.source_reset → new.writes ≡ old.writes → new.late ≡ old.late
+    → HasHeard means text old
     → SaysOf start means (text ++ (line_words (Last (Broken cause bytes)) ++ 10 ∷ [])) true new
 says-broken start means text old new cause bytes going broken judge source_end reset writes late heard =
     let lines : List ℕ = text ++ (line_words (Last (Broken cause bytes)) ++ 10 ∷ []) in
-    let stopped : HasNoEnding means lines true new (Some cause) = (refl, record { front = text; bytes = bytes; heard = same-heard means text old new judge source_end reset writes late heard; lines = refl }) in
+    let stopped : HasNoEnding means lines true new (Some cause) = (
+      refl,
+      record { front = text; bytes = bytes; heard = same-heard means text old new judge source_end reset writes late heard; lines = refl },
+    ) in
     subst (SaysSo start means lines true new) (sym going) (subst (HasNoEnding means lines true new) (sym broken) stopped)
 
 -- the last line tells of an open link, and the judge stays one after the events
-pub says-open : (start : ℕ) (means : List Item → List Item) (text : List ℕ) (old : Hearing) (judge : Judge) (reading : ℕ) → old.verdict ≡ Unfinished → old.broken ≡ None
+pub says-open : (start : ℕ) (means : List Item → List Item) (text : List ℕ) (old : Hearing) (judge : Judge) (reading : ℕ) → old.verdict ≡ Unfinished
+    → old.broken ≡ None
     → ((reported : ℕ → Bool) (log : List LinkEvent) → Judged means reported old.judge log → Judged means reported judge log) → HasHeard means text old
     → SaysOf start means (text ++ (line_words (Last (Ended reading StillOpen)) ++ 10 ∷ [])) true (record old { judge = judge })
 says-open start means text old judge reading going whole stays heard =
@@ -316,7 +339,8 @@ says-open start means text old judge reading going whole stays heard =
     subst (SaysSo start means lines true new) (sym going) (subst (HasNoEnding means lines true new) (sym whole) left)
 
 -- the last line tells the ending
-pub says-ended : (start : ℕ) (means : List Item → List Item) (text : List ℕ) (old new : Hearing) (reading : ℕ) (last : Ending) → new.broken ≡ None → new.source_end ≡ old.source_end → new.source_reset ≡ old.source_reset → new.writes ≡ old.writes
+pub says-ended : (start : ℕ) (means : List Item → List Item) (text : List ℕ) (old new : Hearing) (reading : ℕ) (last : Ending) → new.broken ≡ None
+    → new.source_end ≡ old.source_end → new.source_reset ≡ old.source_reset → new.writes ≡ old.writes
     → KeepsMore old.late (ending_late reading last) new.late → HasHeard means text old
     → (new.judge.heard ≡ old.judge.heard) × (new.judge.said ≡ old.judge.said) × (new.judge.ended ≡ old.judge.ended)
     → ((means : List Item → List Item) (reported : ℕ → Bool) (log : List LinkEvent) → reported reading ≡ true → Judged means reported old.judge log
@@ -334,7 +358,8 @@ says-ended start means text old new reading last whole source_end reset writes l
       record {
         events = heard.events;
         reading = reading;
-        lines = ap (λ lines. lines ++ (line_words (Last (Ended reading last)) ++ 10 ∷ [])) (heard.lines ∙ ap (λ reset. event_lines reset heard.events) (sym reset));
+        lines = ap (λ lines. lines ++ (line_words (Last (Ended reading last)) ++ 10 ∷ []))
+            (heard.lines ∙ ap (λ reset. event_lines reset heard.events) (sym reset));
         counts = rw (counts.0, counts.1, source_end, writes) (counts-of means text old heard);
         values = refl;
         report = λ reported all says. rw (counts.0, counts.1, ended) (reports means reported heard.events says (heard.judged reported all));
@@ -342,7 +367,8 @@ says-ended start means text old new reading last whole source_end reset writes l
     )
 
 -- a line that isn't heard: the verdict says no more than before
-pub says-skipped : (start : ℕ) (means : List Item → List Item) (text line : List ℕ) (over now : Bool) (hearing : Hearing) (verdict : Verdict) → (verdict ≡ Unfinished → ⊥) → over ≡ false
+pub says-skipped : (start : ℕ) (means : List Item → List Item) (text line : List ℕ) (over now : Bool) (hearing : Hearing) (verdict : Verdict)
+    → (verdict ≡ Unfinished → ⊥) → over ≡ false
     → SaysSo start means text over hearing verdict → SaysSo start means (text ++ line) now hearing verdict
 says-skipped start means text line over now hearing (Faithful ending) known going says = absurd-over (sym going ∙ says.0)
   where
@@ -359,7 +385,8 @@ says-skipped start means text line over now hearing (Unfaithful number) known go
         writable = refusal.writable;
         line = refusal.line;
         more = refusal.more ++ line;
-        lines = ap (λ text. text ++ line) refusal.lines ∙ append_assoc (event_lines refusal.reset refusal.events) ((line_words refusal.line ++ 10 ∷ []) ++ refusal.more) line
+        lines = ap (λ text. text ++ line) refusal.lines ∙ append_assoc (event_lines refusal.reset refusal.events)
+            ((line_words refusal.line ++ 10 ∷ []) ++ refusal.more) line
             ∙ ap (λ rest. event_lines refusal.reset refusal.events ++ rest) (append_assoc (line_words refusal.line ++ 10 ∷ []) refusal.more line);
         faithful = refusal.faithful;
         refused = refusal.refused;
@@ -368,7 +395,8 @@ says-skipped start means text line over now hearing (Unfaithful number) known go
     )
 
 -- a line that is heard behind events alone
-says-next : (start : ℕ) (means : List Item → List Item) (text : List ℕ) (old new : Hearing) (line : LogLine) (number : ℕ) (broken : Option BreakCause) → old.broken ≡ broken → IsWritable line → HearsLine old line number new
+says-next : (start : ℕ) (means : List Item → List Item) (text : List ℕ) (old new : Hearing) (line : LogLine) (number : ℕ) (broken : Option BreakCause)
+    → old.broken ≡ broken → IsWritable line → HearsLine old line number new
     → ((heard : HasHeard means text old) → IsLineNumber number (start + length heard.events))
     → HasNoEnding means text false old broken → SaysOf start means (text ++ (line_words line ++ 10 ∷ [])) (is_last line) new
 says-next start means text old new line number None whole writable hears at (inl says) = hears start means text writable whole says.1 (at says.1)
@@ -382,19 +410,29 @@ says-next start means text old new line number (Some cause) whole writable hears
     not-over same = cc
 
 -- a line that is heard
-pub says-line : (start : ℕ) (means : List Item → List Item) (text : List ℕ) (over now : Bool) (old new : Hearing) (line : LogLine) (number : ℕ) → old.verdict ≡ Unfinished → over ≡ false → now ≡ is_last line
-    → IsWritable line → HearsLine old line number new → ((heard : HasHeard means text old) → IsLineNumber number (start + length heard.events)) → SaysOf start means text over old → SaysOf start means (text ++ (line_words line ++ 10 ∷ [])) now new
+pub says-line : (start : ℕ) (means : List Item → List Item) (text : List ℕ) (over now : Bool) (old new : Hearing) (line : LogLine) (number : ℕ)
+    → old.verdict ≡ Unfinished → over ≡ false → now ≡ is_last line
+    → IsWritable line → HearsLine old line number new → ((heard : HasHeard means text old) → IsLineNumber number (start + length heard.events))
+    → SaysOf start means text over old → SaysOf start means (text ++ (line_words line ++ 10 ∷ [])) now new
 says-line start means text over now old new line number unfinished going last writable hears at says =
     let going_on : HasNoEnding means text false old old.broken =
     subst (λ over. HasNoEnding means text over old old.broken) going (subst (SaysSo start means text over old) unfinished says) in
-    subst (λ now. SaysOf start means (text ++ (line_words line ++ 10 ∷ [])) now new) (sym last) (says-next start means text old new line number old.broken refl writable hears at going_on)
+    subst (λ now. SaysOf start means (text ++ (line_words line ++ 10 ∷ [])) now new) (sym last)
+    (says-next start means text old new line number old.broken refl writable hears at going_on)
 
 -- lines stand behind the header, and no line behind them
-behind-header : (before handed : Option (List ℕ)) (header torn lines : List ℕ) (left : Option (List ℕ)) → Lacks 10 torn → LacksLine left → before ≡ prepend_known (header ++ torn) handed
-    → (torn ≡ []) ⊎ IsAtEnd handed → handed ≡ prepend_known lines left → (rest : Option (List ℕ)) × (before ≡ prepend_known (header ++ lines) rest) × LacksLine rest
-behind-header before handed header torn lines left lacks none given (inl empty) here =
-    (left, given ∙ ap (λ torn. prepend_known (header ++ torn) handed) empty ∙ ap (λ header. prepend_known header handed) (append-nil header) ∙ ap (prepend_known header) here ∙ sym (prepend-append header lines left), none)
-behind-header before None header torn lines left lacks none given (inr ended) here = (None, given, record { torn = torn; left = None; given = refl; unended = lacks; ended = tt })
+behind-header : (before handed : Option (List ℕ)) (header torn lines : List ℕ) (left : Option (List ℕ)) → Lacks 10 torn → LacksLine left
+    → before ≡ prepend_known (header ++ torn) handed
+    → (torn ≡ []) ⊎ IsAtEnd handed → handed ≡ prepend_known lines left → (rest : Option (List ℕ)) × (before ≡ prepend_known (header ++ lines) rest)
+    × LacksLine rest
+behind-header before handed header torn lines left lacks none given (inl empty) here = (
+  left,
+  given ∙ ap (λ torn. prepend_known (header ++ torn) handed) empty ∙ ap (λ header. prepend_known header handed) (append-nil header)
+      ∙ ap (prepend_known header) here ∙ sym (prepend-append header lines left),
+  none,
+)
+behind-header before None header torn lines left lacks none given (inr ended) here =
+    (None, given, record { torn = torn; left = None; given = refl; unended = lacks; ended = tt })
 behind-header before (Some bytes) header torn lines None lacks none given (inr ended) here = absurd (no-bytes here)
   where
     no-bytes : Some bytes ≡ None → ⊥
@@ -402,7 +440,8 @@ behind-header before (Some bytes) header torn lines None lacks none given (inr e
 behind-header before (Some bytes) header torn lines (Some left) lacks none given (inr ended) here =
     let empty : lines ≡ [] = no-lines lines left (sym whole ∙ ended) in (
       Some (torn ++ bytes),
-      given ∙ ap Some (append_assoc header torn bytes) ∙ ap (λ header. Some (header ++ (torn ++ bytes))) (sym (append-nil header) ∙ ap (λ lines. header ++ lines) (sym empty)),
+      given ∙ ap Some (append_assoc header torn bytes) ∙ ap (λ header. Some (header ++ (torn ++ bytes)))
+          (sym (append-nil header) ∙ ap (λ lines. header ++ lines) (sym empty)),
       record { torn = torn; left = Some bytes; given = refl; unended = lacks; ended = ended },
     )
   where
@@ -414,8 +453,10 @@ behind-header before (Some bytes) header torn lines (Some left) lacks none given
     no-lines (first ∷ lines) left same = absurd cc
 
 -- how far a log came that tells no ending
-stopped-so : (means : List Item → List Item) (text : List ℕ) (over : Bool) (hearing : Hearing) (broken : Option BreakCause) → HasNoEnding means text over hearing broken
-    → (late : List ℕ) × KeepsLate late hearing.late × HasStopped means text broken hearing.judge.heard hearing.judge.said hearing.source_end hearing.source_reset hearing.writes late
+stopped-so : (means : List Item → List Item) (text : List ℕ) (over : Bool) (hearing : Hearing) (broken : Option BreakCause)
+    → HasNoEnding means text over hearing broken
+    → (late : List ℕ) × KeepsLate late hearing.late × HasStopped means text broken hearing.judge.heard hearing.judge.said hearing.source_end
+    hearing.source_reset hearing.writes late
 stopped-so means text over hearing None (inl says) =
     let heard = says.1 in (
       lates heard.events,
@@ -462,11 +503,13 @@ stopped-so means text over hearing (Some cause) says =
     )
 
 -- the lines behind the header that was read
-text-of : (before after : Option (List ℕ)) (log last : OpenLog) (hearing end : Hearing) (judged : JudgedLog) → Opens before after log → (begun : BeginsJudging log.heading log.chain hearing)
+text-of : (before after : Option (List ℕ)) (log last : OpenLog) (hearing end : Hearing) (judged : JudgedLog) → Opens before after log
+    → (begun : BeginsJudging log.heading log.chain hearing)
     → (heard : HearsToEnd log last after hearing end) → judged.heading ≡ log.heading → judged.chain ≡ log.chain → IsTextOf before judged heard.text begun.means
 text-of before after log last hearing end judged opened begun heard heading chain =
     let header : Heading → Toxics → List ℕ = λ h c. header_text (string_bytes h.proxy) h.number h.stream h.seed c opened.names in
-    let (rest, given, none) = behind-header before (to_hand log after) (header log.heading log.chain) opened.torn heard.text heard.left opened.unended heard.rest opened.given opened.rest heard.given in record {
+    let (rest, given, none) = behind-header before (to_hand log after) (header log.heading log.chain) opened.torn heard.text heard.left opened.unended
+    heard.rest opened.given opened.rest heard.given in record {
       names = opened.names;
       left = rest;
       text = given ∙ ap₂ (λ h c. prepend_known (header h c ++ heard.text) rest) (sym heading) (sym chain);
@@ -485,7 +528,8 @@ pub record KeepsHearing (hearing : Hearing) (judged : JudgedLog) : Type 0 where
   pub writes : judged.writes ≡ hearing.writes
   pub late : (values : List ℕ) → KeepsLate values hearing.late → IsLate values judged.late
 
-kept-report : (means : List Item → List Item) (text : List ℕ) (hearing : Hearing) (judged : JudgedLog) (late : List ℕ) (ending : Ending) → KeepsHearing hearing judged
+kept-report : (means : List Item → List Item) (text : List ℕ) (hearing : Hearing) (judged : JudgedLog) (late : List ℕ) (ending : Ending)
+    → KeepsHearing hearing judged
     → HasReport means text hearing.judge.heard hearing.judge.said hearing.source_end hearing.source_reset hearing.writes late ending
     → HasReport means text judged.heard judged.said judged.source_end judged.source_reset judged.writes late ending
 kept-report means text hearing judged late ending kept report = rw (kept.heard, kept.said, kept.source_end, kept.reset, kept.writes) report
@@ -495,14 +539,17 @@ kept-stopped : (means : List Item → List Item) (text : List ℕ) (hearing : He
     → HasStopped means text judged.broken judged.heard judged.said judged.source_end judged.source_reset judged.writes late
 kept-stopped means text hearing judged late kept stopped = rw (kept.broken, kept.heard, kept.said, kept.source_end, kept.reset, kept.writes) stopped
 
-module _ (before after : Option (List ℕ)) (log last : OpenLog) (hearing end : Hearing) (judged : JudgedLog) (opened : Opens before after log) (begun : BeginsJudging log.heading log.chain hearing)
-    (heard : HearsToEnd log last after hearing end) (kept : KeepsHearing end judged) (heading : judged.heading ≡ last.heading) (chain : judged.chain ≡ last.chain)
+module _ (before after : Option (List ℕ)) (log last : OpenLog) (hearing end : Hearing) (judged : JudgedLog) (opened : Opens before after log)
+    (begun : BeginsJudging log.heading log.chain hearing)
+    (heard : HearsToEnd log last after hearing end) (kept : KeepsHearing end judged) (heading : judged.heading ≡ last.heading)
+    (chain : judged.chain ≡ last.chain)
     (numbered : IsLineNumber (next_number log) (4 + length log.chain.entries)) where
   abbrev start : ℕ
   start = 4 + length log.chain.entries
 
   says : SaysSo start begun.means heard.text last.over end judged.verdict
-  says = subst (SaysSo start begun.means heard.text last.over end) (sym kept.verdict) (heard.says start begun.means numbered (subst (λ over. SaysOf start begun.means [] over hearing) (sym opened.going) (begun.says start)))
+  says = subst (SaysSo start begun.means heard.text last.over end) (sym kept.verdict)
+      (heard.says start begun.means numbered (subst (λ over. SaysOf start begun.means [] over hearing) (sym opened.going) (begun.says start)))
 
   text : IsTextOf before judged heard.text begun.means
   text = text-of before after log last hearing end judged opened begun heard (heading ∙ heard.heading) (chain ∙ heard.chain)
@@ -534,7 +581,8 @@ module _ (before after : Option (List ℕ)) (log last : OpenLog) (hearing end : 
   -- and an unfinished one
   pub unfinished-text : judged.verdict ≡ Unfinished → IsUnfinishedText before judged
   unfinished-text unfinished =
-      let (late, keeps, stopped) = stopped-so begun.means heard.text last.over end end.broken (subst (SaysSo start begun.means heard.text last.over end) unfinished says) in record {
+      let (late, keeps, stopped) = stopped-so begun.means heard.text last.over end end.broken
+      (subst (SaysSo start begun.means heard.text last.over end) unfinished says) in record {
         lines = heard.text;
         means = begun.means;
         text = text;

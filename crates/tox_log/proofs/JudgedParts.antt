@@ -22,5 +22,7 @@ pub late_field-parts : (late : Percentiles) (word : List ℕ) → word ≡ flag_
     → codes ",\"late\":{\"median\":" ++ (decimal late.median ++ (codes ",\"p99\":" ++ (decimal late.p99 ++ (codes ",\"max\":" ++ (decimal late.max
     ++ (codes ",\"approximate\":" ++ (word ++ (codes "}" ++ [])))))))) ≡ late_field (Some late)
 late_field-parts late word is =
-    nine (codes ",\"late\":{\"median\":") (decimal late.median) (codes ",\"p99\":") (decimal late.p99) (codes ",\"max\":") (decimal late.max) (codes ",\"approximate\":") word (codes "}")
-    ∙ ap (λ (text : List ℕ). codes ",\"late\":{\"median\":" ++ decimal late.median ++ codes ",\"p99\":" ++ decimal late.p99 ++ codes ",\"max\":" ++ decimal late.max ++ codes ",\"approximate\":" ++ text ++ codes "}") is
+    nine (codes ",\"late\":{\"median\":") (decimal late.median) (codes ",\"p99\":") (decimal late.p99) (codes ",\"max\":") (decimal late.max)
+    (codes ",\"approximate\":") word (codes "}")
+    ∙ ap (λ (text : List ℕ). codes ",\"late\":{\"median\":" ++ decimal late.median ++ codes ",\"p99\":" ++ decimal late.p99 ++ codes ",\"max\":"
+    ++ decimal late.max ++ codes ",\"approximate\":" ++ text ++ codes "}") is

@@ -1,5 +1,6 @@
 -- No line of a link's log is refused.
-use Rattle.std.proofs.Common.{◌≡◌, ℕ, Bool, true, false, List, [], ◌∷◌, ◌++◌, length, map, take, drop, Option, Some, None, refl, ap, ap₂, sym, subst, ◌∙◌, append_assoc, append-nil}
+use Rattle.std.proofs.Common.{◌≡◌, ℕ, Bool, true, false, List, [], ◌∷◌, ◌++◌, length, map, take, drop, Option, Some, None, refl, ap, ap₂, sym, subst, ◌∙◌}
+use Rattle.std.proofs.Common.{append_assoc, append-nil}
 use Rattle.std.specs.Io.KnownBytes.{prepend_known}
 use Rattle.std.specs.Prelude.{All, Contains}
 use Rattle.std.proofs.Math.Seq.{take-append_seam}
@@ -32,7 +33,8 @@ use Rattle.tox_log.proofs.ReadsBack.{same-line}
 -- The lines of a text
 
 lines-cut : (first : LogLine) (lines : List LogLine) (torn : List ℕ) → log_lines (first ∷ lines) ++ torn ≡ line_words first ++ 10 ∷ (log_lines lines ++ torn)
-lines-cut first lines torn = append_assoc (line_words first ++ 10 ∷ []) (log_lines lines) torn ∙ append_assoc (line_words first) (10 ∷ []) (log_lines lines ++ torn)
+lines-cut first lines torn = append_assoc (line_words first ++ 10 ∷ []) (log_lines lines) torn
+    ∙ append_assoc (line_words first) (10 ∷ []) (log_lines lines ++ torn)
 
 events-cut : (reset : Bool) (event : LinkEvent) (events : List LinkEvent) (rest : List ℕ)
     → event_lines reset (event ∷ events) ++ rest ≡ line_words (logged_line reset event) ++ 10 ∷ (event_lines reset events ++ rest)
@@ -55,8 +57,10 @@ logged-goes true (SourceEnd instant) = refl
 logged-goes true (Wrote slice reading) = refl
 
 -- a text has one list of lines
-pub same-lines : (reset : Bool) (events : List LinkEvent) (line : LogLine) (more torn : List ℕ) (lines : List LogLine) (heard : StreamPosition) → All (λ event. IsWritable (Event event)) events → IsWritable line
-    → AreInOrder heard lines → Lacks 10 torn → event_lines reset events ++ ((line_words line ++ 10 ∷ []) ++ more) ≡ log_lines lines ++ torn → (rest : List LogLine) × (lines ≡ map (logged_line reset) events ++ line ∷ rest)
+pub same-lines : (reset : Bool) (events : List LinkEvent) (line : LogLine) (more torn : List ℕ) (lines : List LogLine) (heard : StreamPosition)
+    → All (λ event. IsWritable (Event event)) events → IsWritable line
+    → AreInOrder heard lines → Lacks 10 torn → event_lines reset events ++ ((line_words line ++ 10 ∷ []) ++ more) ≡ log_lines lines ++ torn
+    → (rest : List LogLine) × (lines ≡ map (logged_line reset) events ++ line ∷ rest)
 same-lines reset [] line more torn [] heard written writable order lacks same =
     absurd (stands 10 (line_words line) more (subst (Lacks 10) (sym same ∙ append_assoc (line_words line) (10 ∷ []) more) lacks))
 same-lines reset [] line more torn (first ∷ lines) heard written writable order lacks same =
@@ -65,14 +69,17 @@ same-lines reset [] line more torn (first ∷ lines) heard written writable orde
     (lines, ap (λ line. line ∷ lines) (sym (same-line line first writable order.0 parts.0)))
 same-lines reset (event ∷ events) line more torn [] heard written writable order lacks same =
     let rest = (line_words line ++ 10 ∷ []) ++ more in
-    absurd (stands 10 (line_words (logged_line reset event)) (event_lines reset events ++ rest) (subst (Lacks 10) (sym same ∙ events-cut reset event events rest) lacks))
+    absurd (stands 10 (line_words (logged_line reset event)) (event_lines reset events ++ rest)
+    (subst (Lacks 10) (sym same ∙ events-cut reset event events rest) lacks))
 same-lines reset (event ∷ events) line more torn (first ∷ lines) heard written writable order lacks same =
     let rest = (line_words line ++ 10 ∷ []) ++ more in
     let here = logged-writable reset event (All-head (λ event. IsWritable (Event event)) event events written) in
-    let parts = cut-once 10 (line_words (logged_line reset event)) (event_lines reset events ++ rest) (line_words first) (log_lines lines ++ torn) (line-feedless (logged_line reset event) here) (line-feedless first order.0)
+    let parts = cut-once 10 (line_words (logged_line reset event)) (event_lines reset events ++ rest) (line_words first) (log_lines lines ++ torn)
+    (line-feedless (logged_line reset event) here) (line-feedless first order.0)
     (sym (events-cut reset event events rest) ∙ same ∙ lines-cut first lines torn) in
     let is = same-line (logged_line reset event) first here order.0 parts.0 in
-    let (left, others) = same-lines reset events line more torn lines (heard_with heard first) (All-tail (λ event. IsWritable (Event event)) event events written) writable order.3 lacks parts.1 in
+    let (left, others) = same-lines reset events line more torn lines (heard_with heard first)
+    (All-tail (λ event. IsWritable (Event event)) event events written) writable order.3 lacks parts.1 in
     (left, ap₂ (λ line lines. line ∷ lines) (sym is) others)
 
 logged-event : (reset : Bool) (event : LinkEvent) (lines : List LogLine) → events_in (logged_line reset event ∷ lines) ≡ event ∷ events_in lines
@@ -81,13 +88,15 @@ logged-event true (Piece len instant) lines = refl
 logged-event true (SourceEnd instant) lines = refl
 logged-event true (Wrote slice reading) lines = refl
 
-pub events-of : (reset : Bool) (events : List LinkEvent) (lines : List LogLine) → events_in (map (logged_line reset) events ++ lines) ≡ events ++ events_in lines
+pub events-of : (reset : Bool) (events : List LinkEvent) (lines : List LogLine)
+    → events_in (map (logged_line reset) events ++ lines) ≡ events ++ events_in lines
 events-of reset [] lines = refl
 events-of reset (event ∷ events) lines =
     logged-event reset event (map (logged_line reset) events ++ lines) ∙ ap (λ rest. event ∷ rest) (events-of reset events lines)
 
 -- behind a last line stands none
-none-behind : (reset : Bool) (events : List LinkEvent) (line : LogLine) (rest : List LogLine) (heard : StreamPosition) → AreInOrder heard (map (logged_line reset) events ++ line ∷ rest) → is_last line ≡ true → rest ≡ []
+none-behind : (reset : Bool) (events : List LinkEvent) (line : LogLine) (rest : List LogLine) (heard : StreamPosition)
+    → AreInOrder heard (map (logged_line reset) events ++ line ∷ rest) → is_last line ≡ true → rest ≡ []
 none-behind reset [] line rest heard order last = order.2 last
 none-behind reset (event ∷ events) line rest heard order last = none-behind reset events line rest (heard_with heard (logged_line reset event)) order.3 last
 
@@ -110,37 +119,48 @@ ordered-front (SourceEnd instant ∷ front) back ordered = nothing-front front b
 ordered-front (Wrote slice reading ∷ front) back ordered = ordered-front front back ordered
 
 -- it is faithful too
-pub faithful-front : (means : List Item → List Item) (reported : ℕ → Type 0) (front back : List LinkEvent) → IsFaithful means reported (front ++ back) → IsFaithful means reported front
+pub faithful-front : (means : List Item → List Item) (reported : ℕ → Type 0) (front back : List LinkEvent) → IsFaithful means reported (front ++ back)
+    → IsFaithful means reported front
 faithful-front means reported front back faithful = record {
   agrees = λ n.
-      let whole : front ++ back ≡ take n front ++ (drop n front ++ back) = ap (λ events. events ++ back) (sym (take-append-drop n front)) ∙ append_assoc (take n front) (drop n front) back in
-      subst (Agrees means) (ap (take (length (take n front))) whole ∙ take-append_seam (take n front) (drop n front ++ back)) (faithful.agrees (length (take n front)));
+      let whole : front ++ back ≡ take n front ++ (drop n front ++ back) = ap (λ events. events ++ back) (sym (take-append-drop n front))
+      ∙ append_assoc (take n front) (drop n front) back in
+      subst (Agrees means) (ap (take (length (take n front))) whole ∙ take-append_seam (take n front) (drop n front ++ back))
+      (faithful.agrees (length (take n front)));
   timely = timely-front reported 0 front back faithful.timely;
   ordered = ordered-front front back faithful.ordered;
 }
 
 -- so no line of a link is refused
-module _ (means : List Item → List Item) (reported : ℕ → Bool) (lines : List LogLine) (heard : StreamPosition) (order : AreInOrder heard lines) (kept : AreLinkLines means reported lines) where
-  refused-event : (reset : Bool) (events : List LinkEvent) (event : LinkEvent) (line : LogLine) (rest : List LogLine) → events_in (line ∷ rest) ≡ event ∷ events_in rest → lines ≡ map (logged_line reset) events ++ line ∷ rest
+module _ (means : List Item → List Item) (reported : ℕ → Bool) (lines : List LogLine) (heard : StreamPosition) (order : AreInOrder heard lines)
+    (kept : AreLinkLines means reported lines) where
+  refused-event : (reset : Bool) (events : List LinkEvent) (event : LinkEvent) (line : LogLine) (rest : List LogLine)
+      → events_in (line ∷ rest) ≡ event ∷ events_in rest → lines ≡ map (logged_line reset) events ++ line ∷ rest
       → IsRefused means events (Event event) → ⊥
   refused-event reset events event line rest tells is refused =
-      let whole : events_in lines ≡ (events ++ event ∷ []) ++ events_in rest = ap events_in is ∙ events-of reset events (line ∷ rest) ∙ ap (λ more. events ++ more) tells ∙ sym (append_assoc events (event ∷ []) (events_in rest)) in
-      refused reported (faithful-front means (λ t. reported t ≡ true) (events ++ event ∷ []) (events_in rest) (subst (IsFaithful means (λ t. reported t ≡ true)) whole kept.faithful))
+      let whole : events_in lines ≡ (events ++ event ∷ []) ++ events_in rest = ap events_in is ∙ events-of reset events (line ∷ rest)
+      ∙ ap (λ more. events ++ more) tells ∙ sym (append_assoc events (event ∷ []) (events_in rest)) in
+      refused reported (faithful-front means (λ t. reported t ≡ true) (events ++ event ∷ []) (events_in rest)
+      (subst (IsFaithful means (λ t. reported t ≡ true)) whole kept.faithful))
 
-  none-refused : (reset : Bool) (events : List LinkEvent) (line : LogLine) (rest : List LogLine) → lines ≡ map (logged_line reset) events ++ line ∷ rest → IsRefused means events line → ⊥
+  none-refused : (reset : Bool) (events : List LinkEvent) (line : LogLine) (rest : List LogLine) → lines ≡ map (logged_line reset) events ++ line ∷ rest
+      → IsRefused means events line → ⊥
   none-refused reset events (Event event) rest is refused = refused-event reset events event (Event event) rest refl is refused
   none-refused reset events (SourceReset instant) rest is refused = refused-event reset events (SourceEnd instant) (SourceReset instant) rest refl is refused
   none-refused reset events (Last (Ended reading last)) rest is refused =
       let line : LogLine = Last (Ended reading last) in
       let none : rest ≡ [] = none-behind reset events line rest heard (subst (AreInOrder heard) is order) refl in
-      let whole : events_in lines ≡ events = ap events_in is ∙ events-of reset events (line ∷ rest) ∙ ap (λ rest. events ++ events_in rest) none ∙ append-nil events in
+      let whole : events_in lines ≡ events = ap events_in is ∙ events-of reset events (line ∷ rest) ∙ ap (λ rest. events ++ events_in rest) none
+      ∙ append-nil events in
       let report : IsReported means reported events reading last = subst (λ events. IsReported means reported events reading last) whole
-      (kept.reported reading last (subst (λ lines. Contains lines line) (sym (is ∙ ap (λ rest. map (logged_line reset) events ++ line ∷ rest) none)) (Contains-push (map (logged_line reset) events) line))) in
+      (kept.reported reading last (subst (λ lines. Contains lines line) (sym (is ∙ ap (λ rest. map (logged_line reset) events ++ line ∷ rest) none))
+      (Contains-push (map (logged_line reset) events) line))) in
       refused reported report.taken report.written report.source report.report
   none-refused reset events (Last (Broken cause bytes)) rest is refused = refused
 
   -- nor has its text a refusal
-  pub no-refusal : (start number : ℕ) (text torn : List ℕ) (handed left : Option (List ℕ)) → handed ≡ Some (log_lines lines ++ torn) → handed ≡ prepend_known text left → Lacks 10 torn → HasRefusal means text start number → ⊥
+  pub no-refusal : (start number : ℕ) (text torn : List ℕ) (handed left : Option (List ℕ)) → handed ≡ Some (log_lines lines ++ torn)
+      → handed ≡ prepend_known text left → Lacks 10 torn → HasRefusal means text start number → ⊥
   no-refusal start number text torn handed None bytes given lacks refusal = no-bytes (sym bytes ∙ given)
     where
       no-bytes : Some (log_lines lines ++ torn) ≡ None → ⊥
@@ -150,8 +170,10 @@ module _ (means : List Item → List Item) (reported : ℕ → Bool) (lines : Li
       let whole : log_lines lines ++ torn ≡ text ++ left = bytes-of (sym bytes ∙ given) in
       let front : List ℕ = event_lines refusal.reset refusal.events in
       let read : front ++ (line ++ (refusal.more ++ left)) ≡ log_lines lines ++ torn =
-      sym (whole ∙ ap (λ text. text ++ left) refusal.lines ∙ append_assoc front (line ++ refusal.more) left ∙ ap (λ rest. front ++ rest) (append_assoc line refusal.more left)) in
-      let (rest, is) = same-lines refusal.reset refusal.events refusal.line (refusal.more ++ left) torn lines heard refusal.written refusal.writable order lacks read in
+      sym (whole ∙ ap (λ text. text ++ left) refusal.lines ∙ append_assoc front (line ++ refusal.more) left
+      ∙ ap (λ rest. front ++ rest) (append_assoc line refusal.more left)) in
+      let (rest, is) = same-lines refusal.reset refusal.events refusal.line (refusal.more ++ left) torn lines heard refusal.written refusal.writable order lacks
+      read in
       none-refused refusal.reset refusal.events refusal.line rest is refusal.refused
     where
       bytes-of : Some (log_lines lines ++ torn) ≡ Some (text ++ left) → log_lines lines ++ torn ≡ text ++ left
@@ -159,7 +181,8 @@ module _ (means : List Item → List Item) (reported : ℕ → Bool) (lines : Li
 
 -- the meaning of the chain that was read
 pub meaning-of : (log : OpenLog) (written : WrittenLog) (means : List Item → List Item) → IsHeadingOf log.heading written → log.chain ≡ written.chain
-    → IsMeaningOf means log.chain (seeded_words log.heading.seed log.heading.number log.heading.stream) → IsMeaningOf means written.chain (seeded_words written.seed written.number written.stream)
+    → IsMeaningOf means log.chain (seeded_words log.heading.seed log.heading.number log.heading.stream)
+    → IsMeaningOf means written.chain (seeded_words written.seed written.number written.stream)
 meaning-of log written means heading chain meaning = λ items stream.
     meaning items stream
     ∙ ap (λ chain. chain_flow chain (seeded_words log.heading.seed log.heading.number log.heading.stream) items) chain

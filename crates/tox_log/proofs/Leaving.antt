@@ -1,5 +1,6 @@
 -- What is left of a log that a link can write, line by line.
-use Rattle.std.proofs.Common.{◌≡◌, ℕ, ◌≤◌, Bool, true, false, List, [], ◌∷◌, ◌++◌, length, length-append, map, Option, Some, None, inl, inr, refl, ap, sym, subst, ◌∙◌, append_assoc, append-nil, arith}
+use Rattle.std.proofs.Common.{◌≡◌, ℕ, ◌≤◌, Bool, true, false, List, [], ◌∷◌, ◌++◌, length, length-append, map, Option, Some, None, inl, inr, refl, ap, sym}
+use Rattle.std.proofs.Common.{subst, ◌∙◌, append_assoc, append-nil, arith}
 use Rattle.std.specs.Io.KnownBytes.{prepend_known}
 use Rattle.std.specs.Prelude.{◌⊎◌, ◌≢◌, All, IsFalse, IsTrue, if◌then◌else◌}
 use Rattle.std.proofs.lemmas.List.Elements.{All-head, All-nil, All-tail}
@@ -21,10 +22,12 @@ use Rattle.tox_log.proofs.LineBytes.{line-feedless, log-line-next, toxic-line-ne
 use Rattle.tox_log.proofs.NextLine.{line-of, next-line, no-line, no-rest, torn-taken}
 
 -- what the text of lines begins with
-lines-first : (line : LogLine) (more : List LogLine) (torn : List ℕ) → log_lines (line ∷ more) ++ torn ≡ (line_words line ++ 10 ∷ []) ++ (log_lines more ++ torn)
+lines-first : (line : LogLine) (more : List LogLine) (torn : List ℕ) → log_lines (line ∷ more) ++ torn
+    ≡ (line_words line ++ 10 ∷ []) ++ (log_lines more ++ torn)
 lines-first line more torn = append_assoc (line_words line ++ 10 ∷ []) (log_lines more) torn
 
-toxics-first : (named : Entry × List ℕ) (toxics : List (Entry × List ℕ)) (rest : List ℕ) → named_lines (named ∷ toxics) ++ rest ≡ toxic_line named.0 named.1 ++ (named_lines toxics ++ rest)
+toxics-first : (named : Entry × List ℕ) (toxics : List (Entry × List ℕ)) (rest : List ℕ)
+    → named_lines (named ∷ toxics) ++ rest ≡ toxic_line named.0 named.1 ++ (named_lines toxics ++ rest)
 toxics-first named toxics rest = append_assoc (toxic_line named.0 named.1) (named_lines toxics) rest
 
 -- The header
@@ -60,12 +63,15 @@ pub record ReadOther (log : OpenLog) (remaining : Option (List ℕ)) (entries : 
 
 module _ (mid next : OpenLog) (between after : Option (List ℕ)) (entries : List Entry) (same : SameHeading mid next) (kept : next.chain ≡ mid.chain) where
   reads-by : (toxics : List (Entry × List ℕ)) (lines : List LogLine) (torn : List ℕ) → entries ≡ mid.chain.entries ++ map (λ named. named.0) toxics
-      → to_take mid.lines between ≡ Some (named_lines toxics ++ (log_lines lines ++ torn)) → All IsWritableToxic toxics → length entries ≤ lane_count mid.chain.lanes
-      → AreInOrder mid.heard lines → mid.over ≡ false → Lacks 10 torn → TakesLine mid.lines next.lines between after → ReadToxic next after entries lines ⊎ ReadOther next after entries lines
+      → to_take mid.lines between ≡ Some (named_lines toxics ++ (log_lines lines ++ torn)) → All IsWritableToxic toxics
+      → length entries ≤ lane_count mid.chain.lanes
+      → AreInOrder mid.heard lines → mid.over ≡ false → Lacks 10 torn → TakesLine mid.lines next.lines between after
+      → ReadToxic next after entries lines ⊎ ReadOther next after entries lines
   reads-by (named ∷ toxics) lines torn chain bytes writable room order going unended takes =
       let toxic = All-head IsWritableToxic named toxics writable in
       let rest = named_lines toxics ++ (log_lines lines ++ torn) in
-      let read = next-line mid.lines next.lines between after (toxic_words named) rest (toxic-line-next (to_take mid.lines between) named rest toxic (bytes ∙ ap Some (toxics-first named toxics (log_lines lines ++ torn)))) takes in
+      let read = next-line mid.lines next.lines between after (toxic_words named) rest
+      (toxic-line-next (to_take mid.lines between) named rest toxic (bytes ∙ ap Some (toxics-first named toxics (log_lines lines ++ torn)))) takes in
       inl (record {
         named = named;
         toxics = toxics;
@@ -82,7 +88,8 @@ module _ (mid next : OpenLog) (between after : Option (List ℕ)) (entries : Lis
       })
   reads-by [] (line ∷ more) torn chain bytes writable room order going unended takes =
       let rest = log_lines more ++ torn in
-      let read = next-line mid.lines next.lines between after (line_words line) rest (log-line-next (to_take mid.lines between) line rest order.0 (bytes ∙ ap Some (lines-first line more torn))) takes in
+      let read = next-line mid.lines next.lines between after (line_words line) rest
+      (log-line-next (to_take mid.lines between) line rest order.0 (bytes ∙ ap Some (lines-first line more torn))) takes in
       inr (record {
         line = line;
         more = more;
@@ -96,19 +103,25 @@ module _ (mid next : OpenLog) (between after : Option (List ℕ)) (entries : Lis
         going = same.1 ∙ going;
         unended = unended;
       })
-  reads-by [] [] torn chain bytes writable room order going unended (text, takes, lacks) = absurd (no-line (to_take mid.lines between) (to_take next.lines after) torn text bytes takes.given unended)
+  reads-by [] [] torn chain bytes writable room order going unended (text, takes, lacks) =
+      absurd (no-line (to_take mid.lines between) (to_take next.lines after) torn text bytes takes.given unended)
 
-  pub reads-next : (lines : List LogLine) → HasToxicsLeft mid between entries lines → TakesLine mid.lines next.lines between after → ReadToxic next after entries lines ⊎ ReadOther next after entries lines
+  pub reads-next : (lines : List LogLine) → HasToxicsLeft mid between entries lines → TakesLine mid.lines next.lines between after
+      → ReadToxic next after entries lines ⊎ ReadOther next after entries lines
   reads-next lines left = reads-by left.toxics lines left.torn left.chain left.bytes left.writable left.room left.order left.going left.unended
 
   ends-by : (toxics : List (Entry × List ℕ)) (lines : List LogLine) (torn : List ℕ) → entries ≡ mid.chain.entries ++ map (λ named. named.0) toxics
-      → to_take mid.lines between ≡ Some (named_lines toxics ++ (log_lines lines ++ torn)) → All IsWritableToxic toxics → AreInOrder mid.heard lines → next.waits ≡ false
+      → to_take mid.lines between ≡ Some (named_lines toxics ++ (log_lines lines ++ torn)) → All IsWritableToxic toxics → AreInOrder mid.heard lines
+      → next.waits ≡ false
       → TakesRest mid.lines next.lines between after → ReadsChain next after entries lines
   ends-by (named ∷ toxics) lines torn chain bytes writable order going rest =
       let more = named_lines toxics ++ (log_lines lines ++ torn) in
-      absurd (no-rest mid.lines next.lines between after (toxic_words named) more (toxic-line-next (to_take mid.lines between) named more (All-head IsWritableToxic named toxics writable) (bytes ∙ ap Some (toxics-first named toxics (log_lines lines ++ torn)))) rest)
+      absurd (no-rest mid.lines next.lines between after (toxic_words named) more
+      (toxic-line-next (to_take mid.lines between) named more (All-head IsWritableToxic named toxics writable)
+      (bytes ∙ ap Some (toxics-first named toxics (log_lines lines ++ torn)))) rest)
   ends-by [] (line ∷ more) torn chain bytes writable order going rest =
-      absurd (no-rest mid.lines next.lines between after (line_words line) (log_lines more ++ torn) (log-line-next (to_take mid.lines between) line (log_lines more ++ torn) order.0 (bytes ∙ ap Some (lines-first line more torn))) rest)
+      absurd (no-rest mid.lines next.lines between after (line_words line) (log_lines more ++ torn)
+      (log-line-next (to_take mid.lines between) line (log_lines more ++ torn) order.0 (bytes ∙ ap Some (lines-first line more torn))) rest)
   ends-by [] [] torn chain bytes writable order going rest = record {
     chain = ap (λ c. c.entries) kept ∙ sym (append-nil mid.chain.entries) ∙ sym chain;
     left = record {
@@ -126,11 +139,13 @@ module _ (mid next : OpenLog) (between after : Option (List ℕ)) (entries : Lis
       no-wait same = cc
 
   -- no line is left
-  pub toxics-end : (lines : List LogLine) → HasToxicsLeft mid between entries lines → next.waits ≡ false → TakesRest mid.lines next.lines between after → ReadsChain next after entries lines
+  pub toxics-end : (lines : List LogLine) → HasToxicsLeft mid between entries lines → next.waits ≡ false → TakesRest mid.lines next.lines between after
+      → ReadsChain next after entries lines
   toxics-end lines left = ends-by left.toxics lines left.torn left.chain left.bytes left.writable left.order
 
 -- the line of the next toxic, for which the chain has room
-next-toxic : (log : OpenLog) (remaining : Option (List ℕ)) (entries : List Entry) (lines : List LogLine) → (read : ReadToxic log remaining entries lines) → IsNextToxic log read.named
+next-toxic : (log : OpenLog) (remaining : Option (List ℕ)) (entries : List Entry) (lines : List LogLine) → (read : ReadToxic log remaining entries lines)
+    → IsNextToxic log read.named
 next-toxic log remaining entries lines read = record {
   line = toxic_words read.named;
   read = read.read;
@@ -139,12 +154,14 @@ next-toxic log remaining entries lines read = record {
 }
 
 -- it was added
-pub toxic-added : (log new : OpenLog) (remaining : Option (List ℕ)) (entries : List Entry) (lines : List LogLine) → (read : ReadToxic log remaining entries lines)
+pub toxic-added : (log new : OpenLog) (remaining : Option (List ℕ)) (entries : List Entry) (lines : List LogLine)
+    → (read : ReadToxic log remaining entries lines)
     → new.chain.entries ≡ log.chain.entries ++ read.named.0 ∷ [] → SameHeading log new → new.lines ≡ log.lines → HasToxicsLeft new remaining entries lines
 toxic-added log new remaining entries lines read added same kept = record {
   toxics = read.toxics;
   torn = read.torn;
-  chain = read.chain ∙ sym (append_assoc log.chain.entries (read.named.0 ∷ []) (map (λ named. named.0) read.toxics)) ∙ ap (λ entries. entries ++ map (λ named. named.0) read.toxics) (sym added);
+  chain = read.chain ∙ sym (append_assoc log.chain.entries (read.named.0 ∷ []) (map (λ named. named.0) read.toxics))
+      ∙ ap (λ entries. entries ++ map (λ named. named.0) read.toxics) (sym added);
   bytes = ap (λ lines. to_take lines remaining) kept ∙ read.bytes;
   writable = read.writable;
   room = subst (λ lanes. length entries ≤ lane_count lanes) (sym same.2) read.room;
@@ -154,7 +171,8 @@ toxic-added log new remaining entries lines read added same kept = record {
 }
 
 -- the line behind the toxics waits
-pub other-waits : (log new : OpenLog) (remaining : Option (List ℕ)) (entries : List Entry) (lines : List LogLine) → ReadOther log remaining entries lines → new.chain ≡ log.chain → SameHeading log new
+pub other-waits : (log new : OpenLog) (remaining : Option (List ℕ)) (entries : List Entry) (lines : List LogLine) → ReadOther log remaining entries lines
+    → new.chain ≡ log.chain → SameHeading log new
     → new.lines ≡ log.lines → new.waits ≡ true → ReadsChain new remaining entries lines
 other-waits log new remaining entries lines read chain same kept waits = record {
   chain = ap (λ c. c.entries) chain ∙ read.chain;
@@ -190,7 +208,8 @@ module _ (log : OpenLog) (remaining : Option (List ℕ)) (entries : List Entry) 
   -- one that was added was a toxic's
   pub toxic-goes : (new : OpenLog) (added : Bool) → added ≡ true → ReadToxic log remaining entries lines ⊎ ReadOther log remaining entries lines
       → ((named : Entry × List ℕ) → IsNextToxic log named → IsTrue added × (new.chain.entries ≡ log.chain.entries ++ named.0 ∷ []))
-      → ((line : LogLine) → IsLineRead log.lines (line_words line) → IsWritable line → IsFalse added) → SameHeading log new → new.lines ≡ log.lines → HasToxicsLeft new remaining entries lines
+      → ((line : LogLine) → IsLineRead log.lines (line_words line) → IsWritable line → IsFalse added) → SameHeading log new → new.lines ≡ log.lines
+      → HasToxicsLeft new remaining entries lines
   toxic-goes new added was (inl toxic) takes skips same kept =
       toxic-added log new remaining entries lines toxic (takes toxic.named (next-toxic log remaining entries lines toxic)).1 same kept
   toxic-goes new added was (inr other) takes skips same kept = absurd (both was (skips other.line other.read other.writable))
@@ -228,15 +247,18 @@ still-going true line more none = let same : line ∷ more ≡ [] = none refl in
 
 -- it was the one that waited
 waits-by : (log : OpenLog) (remaining : Option (List ℕ)) (lines : List LogLine) (torn : List ℕ) → to_hand log remaining ≡ Some (log_lines lines ++ torn)
-    → (log.waits ≡ true → Lacks 10 log.lines.line.items × (log.lines.long ≡ false)) → AreInOrder log.heard lines → (log.over ≡ true → lines ≡ []) → Lacks 10 torn → log.waits ≡ true
+    → (log.waits ≡ true → Lacks 10 log.lines.line.items × (log.lines.long ≡ false)) → AreInOrder log.heard lines → (log.over ≡ true → lines ≡ [])
+    → Lacks 10 torn → log.waits ≡ true
     → NextLeft (record log { waits = false }) remaining lines
 waits-by log remaining [] torn bytes well order over unended waits =
     absurd (no-line (to_hand log remaining) (to_take log.lines remaining) torn log.lines.line.items bytes
     (ap (λ w. if w then prepend_known (log.lines.line.items ++ 10 ∷ []) (to_take log.lines remaining) else to_take log.lines remaining) waits) unended)
 waits-by log remaining (line ∷ more) torn bytes well order over unended waits =
     let kept = well waits in
-    let read = line-of (to_hand log remaining) (to_take log.lines remaining) (line_words line) log.lines.line.items (log_lines more ++ torn) (bytes ∙ ap Some (lines-first line more torn))
-    (ap (λ w. if w then prepend_known (log.lines.line.items ++ 10 ∷ []) (to_take log.lines remaining) else to_take log.lines remaining) waits) (line-feedless line order.0) kept.0 in record {
+    let read = line-of (to_hand log remaining) (to_take log.lines remaining) (line_words line) log.lines.line.items (log_lines more ++ torn)
+    (bytes ∙ ap Some (lines-first line more torn))
+    (ap (λ w. if w then prepend_known (log.lines.line.items ++ 10 ∷ []) (to_take log.lines remaining) else to_take log.lines remaining) waits)
+    (line-feedless line order.0) kept.0 in record {
       line = line;
       more = more;
       torn = torn;
@@ -248,18 +270,23 @@ waits-by log remaining (line ∷ more) torn bytes well order over unended waits 
       unended = unended;
     }
 
-pub next-waits : (log : OpenLog) (remaining : Option (List ℕ)) (lines : List LogLine) → HasLinesLeft log remaining lines → log.waits ≡ true → NextLeft (record log { waits = false }) remaining lines
+pub next-waits : (log : OpenLog) (remaining : Option (List ℕ)) (lines : List LogLine) → HasLinesLeft log remaining lines → log.waits ≡ true
+    → NextLeft (record log { waits = false }) remaining lines
 next-waits log remaining lines left = waits-by log remaining lines left.torn left.bytes left.waits left.order left.over left.unended
 
 handed-none : (log : OpenLog) (remaining : Option (List ℕ)) → log.waits ≡ false → to_hand log remaining ≡ to_take log.lines remaining
-handed-none log remaining waits = ap (λ w. if w then prepend_known (log.lines.line.items ++ 10 ∷ []) (to_take log.lines remaining) else to_take log.lines remaining) waits
+handed-none log remaining waits = ap (λ w. if w then prepend_known (log.lines.line.items ++ 10 ∷ []) (to_take log.lines remaining) else to_take log.lines
+    remaining) waits
 
 module _ (old new : OpenLog) (before after : Option (List ℕ)) (going : old.waits ≡ false) where
-  read-by : (lines : List LogLine) (torn : List ℕ) → to_take old.lines before ≡ Some (log_lines lines ++ torn) → AreInOrder old.heard lines → (old.over ≡ true → lines ≡ []) → Lacks 10 torn
+  read-by : (lines : List LogLine) (torn : List ℕ) → to_take old.lines before ≡ Some (log_lines lines ++ torn) → AreInOrder old.heard lines
+      → (old.over ≡ true → lines ≡ []) → Lacks 10 torn
       → TakesLine old.lines new.lines before after → new.heard ≡ old.heard → new.over ≡ old.over → NextLeft new after lines
-  read-by [] torn bytes order over unended (text, takes, lacks) heard same = absurd (no-line (to_take old.lines before) (to_take new.lines after) torn text bytes takes.given unended)
+  read-by [] torn bytes order over unended (text, takes, lacks) heard same =
+      absurd (no-line (to_take old.lines before) (to_take new.lines after) torn text bytes takes.given unended)
   read-by (line ∷ more) torn bytes order over unended takes heard same =
-      let read = next-line old.lines new.lines before after (line_words line) (log_lines more ++ torn) (log-line-next (to_take old.lines before) line (log_lines more ++ torn) order.0 (bytes ∙ ap Some (lines-first line more torn))) takes in record {
+      let read = next-line old.lines new.lines before after (line_words line) (log_lines more ++ torn)
+      (log-line-next (to_take old.lines before) line (log_lines more ++ torn) order.0 (bytes ∙ ap Some (lines-first line more torn))) takes in record {
         line = line;
         more = more;
         torn = torn;
@@ -277,21 +304,26 @@ module _ (old new : OpenLog) (before after : Option (List ℕ)) (going : old.wai
       }
 
   -- it was taken from the reader
-  pub next-read : (lines : List LogLine) → HasLinesLeft old before lines → TakesLine old.lines new.lines before after → new.heard ≡ old.heard → new.over ≡ old.over → NextLeft new after lines
+  pub next-read : (lines : List LogLine) → HasLinesLeft old before lines → TakesLine old.lines new.lines before after → new.heard ≡ old.heard
+      → new.over ≡ old.over → NextLeft new after lines
   next-read lines left = read-by lines left.torn (sym (handed-none old before going) ∙ left.bytes) left.order left.over left.unended
 
-  none-by : (lines : List LogLine) (torn : List ℕ) → to_take old.lines before ≡ Some (log_lines lines ++ torn) → AreInOrder old.heard lines → TakesRest old.lines new.lines before after → lines ≡ []
+  none-by : (lines : List LogLine) (torn : List ℕ) → to_take old.lines before ≡ Some (log_lines lines ++ torn) → AreInOrder old.heard lines
+      → TakesRest old.lines new.lines before after → lines ≡ []
   none-by [] torn bytes order rest = refl
   none-by (line ∷ more) torn bytes order rest =
-      absurd (no-rest old.lines new.lines before after (line_words line) (log_lines more ++ torn) (log-line-next (to_take old.lines before) line (log_lines more ++ torn) order.0 (bytes ∙ ap Some (lines-first line more torn))) rest)
+      absurd (no-rest old.lines new.lines before after (line_words line) (log_lines more ++ torn)
+      (log-line-next (to_take old.lines before) line (log_lines more ++ torn) order.0 (bytes ∙ ap Some (lines-first line more torn))) rest)
 
   -- none is left
   pub none-left : (lines : List LogLine) → HasLinesLeft old before lines → TakesRest old.lines new.lines before after → lines ≡ []
   none-left lines left = none-by lines left.torn (sym (handed-none old before going) ∙ left.bytes) left.order
 
 -- the first line is handed out
-pub hands-first : (log new : OpenLog) (remaining : Option (List ℕ)) (lines : List LogLine) (handed : LogLine) → (left : NextLeft log remaining lines) → Some handed ≡ Some left.line → new.lines ≡ log.lines
-    → log.waits ≡ false → new.waits ≡ log.waits → new.over ≡ is_last handed → GoesOnWith log.heard handed new.heard → HandsFirst (Some handed) new remaining lines
+pub hands-first : (log new : OpenLog) (remaining : Option (List ℕ)) (lines : List LogLine) (handed : LogLine) → (left : NextLeft log remaining lines)
+    → Some handed ≡ Some left.line → new.lines ≡ log.lines
+    → log.waits ≡ false → new.waits ≡ log.waits → new.over ≡ is_last handed → GoesOnWith log.heard handed new.heard
+    → HandsFirst (Some handed) new remaining lines
 hands-first log new remaining lines handed left is kept going waits over goes =
     let line : handed ≡ left.line = line-is is in
     subst (HandsFirst (Some handed) new remaining) (sym left.first) (
@@ -317,8 +349,10 @@ pub hands-none : (new : OpenLog) (remaining : Option (List ℕ)) (lines : List L
 hands-none new remaining lines none = subst (HandsFirst None new remaining) (sym none) refl
 
 -- the same, wherever it stands
-pub next-moved : (log other : OpenLog) (remaining bytes : Option (List ℕ)) (lines : List LogLine) → other ≡ log → bytes ≡ remaining → NextLeft log remaining lines → NextLeft other bytes lines
-next-moved log other remaining bytes lines same left next = subst (λ log. NextLeft log bytes lines) (sym same) (subst (λ bytes. NextLeft log bytes lines) (sym left) next)
+pub next-moved : (log other : OpenLog) (remaining bytes : Option (List ℕ)) (lines : List LogLine) → other ≡ log → bytes ≡ remaining
+    → NextLeft log remaining lines → NextLeft other bytes lines
+next-moved log other remaining bytes lines same left next = subst (λ log. NextLeft log bytes lines) (sym same)
+    (subst (λ bytes. NextLeft log bytes lines) (sym left) next)
 
 -- the others are left behind the one that was handed out
 pub rest-left : (log : OpenLog) (remaining : Option (List ℕ)) (lines : List LogLine) (line : LogLine) → HandsFirst (Some line) log remaining lines

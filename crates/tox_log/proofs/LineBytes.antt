@@ -1,5 +1,6 @@
 -- The bytes of a log's lines: none has a line feed, and those that can be written are short.
-use Rattle.std.proofs.Common.{◌≡◌, ℕ, ◌^◌, ◌+◌, ◌<◌, ◌≤◌, true, false, List, [], ◌∷◌, ◌++◌, length, length-append, codes, refl, ap, sym, subst, ◌∙◌, append_assoc, arith}
+use Rattle.std.proofs.Common.{◌≡◌, ℕ, ◌^◌, ◌+◌, ◌<◌, ◌≤◌, true, false, List, [], ◌∷◌, ◌++◌, length, length-append, codes, refl, ap, sym, subst, ◌∙◌}
+use Rattle.std.proofs.Common.{append_assoc, arith}
 use Rattle.std.specs.Prelude.{◌≢◌, All, Option, Some, nat_eq, not}
 use Rattle.std.specs.Char.{is_ascii_control, is_ascii_digit}
 use Rattle.std.specs.Fmt.{decimal}
@@ -68,8 +69,10 @@ cause-word Stopped = word-by (cause_name Stopped) 20 refl (omega arith)
 
 ending-word : (ending : Ending) → IsWritableEnding ending → IsWord (ending_words ending) 40
 ending-word StillOpen writable = word-by (codes "open") 40 refl (omega arith)
-ending-word (ClosedAt t) writable = two-words (codes "closed ") (decimal t) 20 20 40 (omega arith) (word-by (codes "closed ") 20 refl (omega arith)) (number-word t (omega (arith, writable)))
-ending-word (ResetAt t) writable = two-words (codes "reset ") (decimal t) 20 20 40 (omega arith) (word-by (codes "reset ") 20 refl (omega arith)) (number-word t (omega (arith, writable)))
+ending-word (ClosedAt t) writable = two-words (codes "closed ") (decimal t) 20 20 40 (omega arith) (word-by (codes "closed ") 20 refl (omega arith))
+    (number-word t (omega (arith, writable)))
+ending-word (ResetAt t) writable = two-words (codes "reset ") (decimal t) 20 20 40 (omega arith) (word-by (codes "reset ") 20 refl (omega arith))
+    (number-word t (omega (arith, writable)))
 
 first-word : (line : LogLine) → IsWritable line → IsWord (first_words line) 20
 first-word (Event (Piece len instant)) writable = number-word instant (omega (arith, writable.0))
@@ -80,7 +83,8 @@ first-word (Last (Ended reading ending)) writable = number-word reading (omega (
 first-word (Last (Broken cause bytes)) writable = word-by (codes "broken") 20 refl (omega arith)
 
 rest-word : (line : LogLine) → IsWritable line → IsWord (rest_words line) 100
-rest-word (Event (Piece len instant)) writable = two-words (codes "piece ") (decimal len) 20 20 100 (omega arith) (word-by (codes "piece ") 20 refl (omega arith)) (number-word len (omega (arith, writable.1)))
+rest-word (Event (Piece len instant)) writable = two-words (codes "piece ") (decimal len) 20 20 100 (omega arith)
+    (word-by (codes "piece ") 20 refl (omega arith)) (number-word len (omega (arith, writable.1)))
 rest-word (Event (SourceEnd instant)) writable = word-by (codes "end") 100 refl (omega arith)
 rest-word (Event (Wrote slice reading)) writable =
     let start = number-word slice.span.start (omega (arith, writable.1.0)) in
@@ -90,12 +94,14 @@ rest-word (Event (Wrote slice reading)) writable =
     let range = two-words (decimal slice.span.start ++ codes "..") (decimal slice.span.stop) 22 20 42 (omega arith) points stop in
     let both = two-words (decimal slice.span.start ++ codes ".." ++ decimal slice.span.stop) (32 ∷ decimal slice.instant) 42 21 63 (omega arith) range
     (two-words (codes " ") (decimal slice.instant) 1 20 21 (omega arith) (word-by (codes " ") 1 refl (omega arith)) due) in
-    two-words (codes "wrote ") ((decimal slice.span.start ++ codes ".." ++ decimal slice.span.stop) ++ 32 ∷ decimal slice.instant) 6 63 100 (omega arith) (word-by (codes "wrote ") 6 refl (omega arith)) both
+    two-words (codes "wrote ") ((decimal slice.span.start ++ codes ".." ++ decimal slice.span.stop) ++ 32 ∷ decimal slice.instant) 6 63 100 (omega arith)
+    (word-by (codes "wrote ") 6 refl (omega arith)) both
 rest-word (SourceReset instant) writable = word-by (codes "end reset") 100 refl (omega arith)
 rest-word (Last (Ended reading ending)) writable =
     let word = ending-word ending writable.1 in record { lacks = word.lacks; short = omega (arith, word.short) }
 rest-word (Last (Broken cause bytes)) writable =
-    two-words (cause_name cause) (32 ∷ decimal bytes) 20 21 100 (omega arith) (cause-word cause) (two-words (codes " ") (decimal bytes) 1 20 21 (omega arith) (word-by (codes " ") 1 refl (omega arith)) (number-word bytes (omega (arith, writable))))
+    two-words (cause_name cause) (32 ∷ decimal bytes) 20 21 100 (omega arith) (cause-word cause)
+    (two-words (codes " ") (decimal bytes) 1 20 21 (omega arith) (word-by (codes " ") 1 refl (omega arith)) (number-word bytes (omega (arith, writable))))
 
 line-word : (line : LogLine) → IsWritable line → IsWord (line_words line) 200
 line-word line writable =
@@ -108,8 +114,14 @@ pub line-feedless : (line : LogLine) → IsWritable line → Lacks 10 (line_word
 line-feedless line writable = (line-word line writable).lacks
 
 -- such a line comes next
-pub log-line-next : (given : Option (List ℕ)) (line : LogLine) (more : List ℕ) → IsWritable line → given ≡ Some ((line_words line ++ 10 ∷ []) ++ more) → HasLineNext given (line_words line) more
-log-line-next given line more writable is = record { bytes = is; unended = line-feedless line writable; short = let word = line-word line writable in omega (arith, word.short) }
+pub log-line-next : (given : Option (List ℕ)) (line : LogLine) (more : List ℕ) → IsWritable line → given ≡ Some ((line_words line ++ 10 ∷ []) ++ more)
+    → HasLineNext given (line_words line) more
+log-line-next given line more writable is = record {
+  bytes = is;
+  unended = line-feedless line writable;
+  short = let word = line-word line writable in
+      omega (arith, word.short);
+}
 
 -- it isn't a toxic's
 pub no-toxic : (line : LogLine) → IsWritable line → BeginsToxic (line_words line) → ⊥
@@ -131,7 +143,8 @@ no-toxic line writable (rest, begins) = by line writable (line-cut (codes "toxic
 pub name-feedless : (name : List ℕ) → All (λ byte. is_ascii_control byte ≡ false) name → Lacks 10 name
 name-feedless [] visible = All-nil (λ other. other ≢ 10)
 name-feedless (byte ∷ name) visible =
-    All-cons (λ other. other ≢ 10) byte name (no-feed byte (All-head (λ byte. is_ascii_control byte ≡ false) byte name visible)) (name-feedless name (All-tail (λ byte. is_ascii_control byte ≡ false) byte name visible))
+    All-cons (λ other. other ≢ 10) byte name (no-feed byte (All-head (λ byte. is_ascii_control byte ≡ false) byte name visible))
+    (name-feedless name (All-tail (λ byte. is_ascii_control byte ≡ false) byte name visible))
   where
     no-feed : (byte : ℕ) → is_ascii_control byte ≡ false → byte ≢ 10
     no-feed byte plain same =
@@ -149,13 +162,15 @@ pub toxic-parts : (named : Entry × List ℕ) → toxic_words named ++ 10 ∷ []
 toxic-parts named = simp append_assoc
 
 -- it comes next
-pub toxic-line-next : (given : Option (List ℕ)) (named : Entry × List ℕ) (more : List ℕ) → IsWritableToxic named → given ≡ Some (toxic_line named.0 named.1 ++ more) → HasLineNext given (toxic_words named) more
+pub toxic-line-next : (given : Option (List ℕ)) (named : Entry × List ℕ) (more : List ℕ) → IsWritableToxic named
+    → given ≡ Some (toxic_line named.0 named.1 ++ more) → HasLineNext given (toxic_words named) more
 toxic-line-next given named more writable is = record {
   bytes = is ∙ ap (λ line. Some (line ++ more)) (sym (toxic-parts named));
   unended =
       let short = printed_short named.0.toxic named.0.toxicity in
       both-lack 10 (codes "toxic " ++ short ++ codes " ") named.1
-      (both-lack 10 (codes "toxic " ++ short) (codes " ") (both-lack 10 (codes "toxic ") short (lacks-by 10 (codes "toxic ") refl) (signs-lack 10 short (omega arith) (short-signs named.0.toxic named.0.toxicity writable.entry.0 writable.entry.1))) (lacks-by 10 (codes " ") refl))
+      (both-lack 10 (codes "toxic " ++ short) (codes " ") (both-lack 10 (codes "toxic ") short (lacks-by 10 (codes "toxic ") refl)
+      (signs-lack 10 short (omega arith) (short-signs named.0.toxic named.0.toxicity writable.entry.0 writable.entry.1))) (lacks-by 10 (codes " ") refl))
       (name-feedless named.1 writable.name.visible);
   short = let whole = ap length (toxic-parts named) in omega (arith, whole, length-append (toxic_words named) (10 ∷ []), writable.short);
 }
@@ -167,14 +182,16 @@ link_words name number direction = codes "link " ++ ((name ++ 32 ∷ decimal num
 pub link-parts : (name : List ℕ) (number : ℕ) (direction : Stream) → link_words name number direction ++ 10 ∷ [] ≡ link_line name number direction
 link-parts name number direction = simp append_assoc
 
-pub link-line-next : (given : Option (List ℕ)) (name : List ℕ) (number : ℕ) (direction : Stream) (more : List ℕ) → IsWritableName name → number ≤ 1_000_000 → length (link_line name number direction) ≤ 4_097
+pub link-line-next : (given : Option (List ℕ)) (name : List ℕ) (number : ℕ) (direction : Stream) (more : List ℕ) → IsWritableName name → number ≤ 1_000_000
+    → length (link_line name number direction) ≤ 4_097
     → given ≡ Some (link_line name number direction ++ more) → HasLineNext given (link_words name number direction) more
 link-line-next given name number direction more named few short is = record {
   bytes = is ∙ ap (λ line. Some (line ++ more)) (sym (link-parts name number direction));
   unended =
       both-lack 10 (codes "link ") ((name ++ 32 ∷ decimal number) ++ 32 ∷ stream_name direction) (lacks-by 10 (codes "link ") refl)
       (both-lack 10 (name ++ 32 ∷ decimal number) (32 ∷ stream_name direction)
-      (both-lack 10 name (32 ∷ decimal number) (name-feedless name named.visible) (both-lack 10 (codes " ") (decimal number) (lacks-by 10 (codes " ") refl) (number-lacks 10 number (omega arith) (omega (arith, few)))))
+      (both-lack 10 name (32 ∷ decimal number) (name-feedless name named.visible)
+      (both-lack 10 (codes " ") (decimal number) (lacks-by 10 (codes " ") refl) (number-lacks 10 number (omega arith) (omega (arith, few)))))
       (both-lack 10 (codes " ") (stream_name direction) (lacks-by 10 (codes " ") refl) (stream-word direction).lacks));
   short = let whole = ap length (link-parts name number direction) in omega (arith, whole, length-append (link_words name number direction) (10 ∷ []), short);
 }
@@ -188,11 +205,13 @@ seed-parts lanes seed = simp append_assoc
 
 seed-word : (lanes : Lanes) (seed : ℕ) → lane_count lanes < 2 ^ 64 → seed < 2 ^ 64 → IsWord (seed_words lanes seed) 100
 seed-word lanes seed lanes_fit seed_fits =
-    two-words (codes "lanes ") (decimal (lane_count lanes) ++ 32 ∷ (codes "seed " ++ decimal seed)) 6 60 100 (omega arith) (word-by (codes "lanes ") 6 refl (omega arith))
+    two-words (codes "lanes ") (decimal (lane_count lanes) ++ 32 ∷ (codes "seed " ++ decimal seed)) 6 60 100 (omega arith)
+    (word-by (codes "lanes ") 6 refl (omega arith))
     (two-words (decimal (lane_count lanes)) (codes " seed " ++ decimal seed) 20 40 60 (omega arith) (number-word (lane_count lanes) lanes_fit)
     (two-words (codes " seed ") (decimal seed) 20 20 40 (omega arith) (word-by (codes " seed ") 20 refl (omega arith)) (number-word seed seed_fits)))
 
-pub seed-line-next : (given : Option (List ℕ)) (lanes : Lanes) (seed : ℕ) (more : List ℕ) → seed < 2 ^ 64 → given ≡ Some (seed_line lanes seed ++ more) → HasLineNext given (seed_words lanes seed) more
+pub seed-line-next : (given : Option (List ℕ)) (lanes : Lanes) (seed : ℕ) (more : List ℕ) → seed < 2 ^ 64 → given ≡ Some (seed_line lanes seed ++ more)
+    → HasLineNext given (seed_words lanes seed) more
 seed-line-next given lanes seed more fits is =
     let word = seed-word lanes seed (omega (arith, lane_count-most lanes)) fits in record {
       bytes = is ∙ ap (λ line. Some (line ++ more)) (sym (seed-parts lanes seed));

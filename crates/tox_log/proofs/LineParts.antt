@@ -19,7 +19,8 @@ pub open-parts : (front words name : List ℕ) → words ≡ name → front ++ 3
 open-parts front words name is = rw is (simp append_assoc)
 
 -- a word and what stands behind it
-pub words-parts : (front words word rest name : List ℕ) → words ≡ word ++ 32 ∷ rest → word ≡ name → front ++ 32 ∷ words ≡ front ++ (32 ∷ name ++ 32 ∷ []) ++ rest
+pub words-parts : (front words word rest name : List ℕ) → words ≡ word ++ 32 ∷ rest → word ≡ name
+    → front ++ 32 ∷ words ≡ front ++ (32 ∷ name ++ 32 ∷ []) ++ rest
 words-parts front words word rest name is_words is_word = rw (is_words, is_word) (simp append_assoc)
 
 -- the same text, otherwise put together

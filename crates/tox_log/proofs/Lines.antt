@@ -19,7 +19,8 @@ takes-more old mid next new before between after text part taken takes filled sa
 }
 
 -- a part without a line feed
-pub takes-part : (old mid next new : LineReader) (before between after : Option (List ℕ)) → (text : List ℕ) × Takes old mid before between text text × Lacks 10 text
+pub takes-part : (old mid next new : LineReader) (before between after : Option (List ℕ))
+    → (text : List ℕ) × Takes old mid before between text text × Lacks 10 text
     → to_take mid between ≡ to_take next after → (next.line ≡ mid.line) × (next.long ≡ mid.long)
     → TakesPart next new false
     → (text : List ℕ) × Takes old new before after text text × Lacks 10 text
@@ -30,20 +31,24 @@ takes-part old mid next new before between after (text, takes, lacks) filled sam
 )
 
 -- the last part of a line, and its line feed
-pub takes-line : (old mid next new : LineReader) (before between after : Option (List ℕ)) → (text : List ℕ) × Takes old mid before between text text × Lacks 10 text
+pub takes-line : (old mid next new : LineReader) (before between after : Option (List ℕ))
+    → (text : List ℕ) × Takes old mid before between text text × Lacks 10 text
     → to_take mid between ≡ to_take next after → (next.line ≡ mid.line) × (next.long ≡ mid.long)
     → TakesPart next new true
     → TakesLine old new before after
 takes-line old mid next new before between after (text, takes, lacks) filled same more = (
   text ++ more.part,
-  subst-taken (takes-more old mid next new before between after text more.part (more.part ++ 10 ∷ []) takes filled same (more.given ∙ simp append_assoc) more.line),
+  subst-taken (takes-more old mid next new before between after text more.part (more.part ++ 10 ∷ []) takes filled same (more.given ∙ simp append_assoc)
+      more.line),
   All-append (λ other. other ≢ 10) text more.part lacks more.unended,
 )
   where
-    subst-taken : Takes old new before after (text ++ more.part) (text ++ (more.part ++ 10 ∷ [])) → Takes old new before after (text ++ more.part) ((text ++ more.part) ++ 10 ∷ [])
+    subst-taken : Takes old new before after (text ++ more.part) (text ++ (more.part ++ 10 ∷ []))
+        → Takes old new before after (text ++ more.part) ((text ++ more.part) ++ 10 ∷ [])
     subst-taken = subst (Takes old new before after (text ++ more.part)) (sym (append_assoc text more.part (10 ∷ [])))
 
 -- a last part, and no more bytes
 pub takes-rest : (old mid next : LineReader) (before between after : Option (List ℕ)) → (text : List ℕ) × Takes old mid before between text text × Lacks 10 text
     → to_take mid between ≡ to_take next after → IsAtEnd (to_take next after) → TakesRest old next before after
-takes-rest old mid next before between after (text, takes, lacks) filled ended = record { torn = text; given = takes.given ∙ ap (prepend_known text) filled; unended = lacks; ended = ended }
+takes-rest old mid next before between after (text, takes, lacks) filled ended =
+    record { torn = text; given = takes.given ∙ ap (prepend_known text) filled; unended = lacks; ended = ended }

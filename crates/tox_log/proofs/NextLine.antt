@@ -36,7 +36,8 @@ no-line given (Some rest) torn text is taken lacks =
     bytes-of same = cc
 
 -- a line is no torn rest
-pub no-torn : (given left : Option (List ℕ)) (line more torn : List ℕ) → given ≡ Some ((line ++ 10 ∷ []) ++ more) → given ≡ prepend_known torn left → Lacks 10 torn → IsAtEnd left → ⊥
+pub no-torn : (given left : Option (List ℕ)) (line more torn : List ℕ) → given ≡ Some ((line ++ 10 ∷ []) ++ more) → given ≡ prepend_known torn left
+    → Lacks 10 torn → IsAtEnd left → ⊥
 no-torn given None line more torn is taken lacks ended = no-bytes (sym is ∙ taken)
   where
     no-bytes : Some ((line ++ 10 ∷ []) ++ more) ≡ None → ⊥
@@ -58,7 +59,8 @@ torn-taken given None torn text is taken ended = absurd (no-bytes (sym is ∙ ta
 torn-taken given (Some rest) torn text is taken ended = ap Some ended
 
 -- the next line was read
-pub next-line : (old new : LineReader) (before after : Option (List ℕ)) (line more : List ℕ) → HasLineNext (to_take old before) line more → TakesLine old new before after
+pub next-line : (old new : LineReader) (before after : Option (List ℕ)) (line more : List ℕ) → HasLineNext (to_take old before) line more
+    → TakesLine old new before after
     → (IsLineRead new line) × (to_take new after ≡ Some more)
 next-line old new before after line more next (text, takes, lacks) =
     let parts = line-of (to_take old before) (to_take new after) line text more next.bytes takes.given next.unended lacks in
@@ -66,5 +68,7 @@ next-line old new before after line more next (text, takes, lacks) =
     ((takes.line.0 short ∙ parts.0, short), parts.1)
 
 -- there is a next line
-pub no-rest : (old new : LineReader) (before after : Option (List ℕ)) (line more : List ℕ) → HasLineNext (to_take old before) line more → TakesRest old new before after → ⊥
-no-rest old new before after line more next rest = no-torn (to_take old before) (to_take new after) line more rest.torn next.bytes rest.given rest.unended rest.ended
+pub no-rest : (old new : LineReader) (before after : Option (List ℕ)) (line more : List ℕ) → HasLineNext (to_take old before) line more
+    → TakesRest old new before after → ⊥
+no-rest old new before after line more next rest = no-torn (to_take old before) (to_take new after) line more rest.torn next.bytes rest.given rest.unended
+    rest.ended

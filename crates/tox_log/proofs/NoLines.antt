@@ -1,5 +1,6 @@
 -- A text that is cut at its first space is the line that has these parts, and no other.
-use Rattle.std.proofs.Common.{◌≡◌, ℕ, ◌^◌, ◌<◌, ◌≤◌, true, false, List, [], ◌∷◌, ◌++◌, Option, None, MatchOption, codes, get_or, refl, ap, sym, ◌∙◌, subst, append_assoc, arith}
+use Rattle.std.proofs.Common.{◌≡◌, ℕ, ◌^◌, ◌<◌, ◌≤◌, true, false, List, [], ◌∷◌, ◌++◌, Option, None, MatchOption, codes, get_or, refl, ap, sym, ◌∙◌, subst}
+use Rattle.std.proofs.Common.{append_assoc, arith}
 use Rattle.std.specs.Prelude.{◌≢◌, not, nat_eq}
 use Rattle.std.specs.Fmt.{decimal}
 use Rattle.std.specs.List.{list_all}
@@ -55,7 +56,8 @@ first_words (Last (Broken cause bytes)) = codes "broken"
 abbrev pub rest_words : LogLine → List ℕ
 rest_words (Event (Piece len instant)) = codes "piece" ++ 32 ∷ decimal len
 rest_words (Event (SourceEnd instant)) = codes "end"
-rest_words (Event (Wrote slice reading)) = codes "wrote" ++ 32 ∷ ((decimal slice.span.start ++ codes ".." ++ decimal slice.span.stop) ++ 32 ∷ decimal slice.instant)
+rest_words (Event (Wrote slice reading)) = codes "wrote" ++ 32 ∷ ((decimal slice.span.start ++ codes ".." ++ decimal slice.span.stop) ++ 32
+    ∷ decimal slice.instant)
 rest_words (SourceReset instant) = codes "end" ++ 32 ∷ codes "reset"
 rest_words (Last (Ended reading ending)) = ending_words ending
 rest_words (Last (Broken cause bytes)) = cause_name cause ++ 32 ∷ decimal bytes
@@ -79,7 +81,8 @@ first-lacks (Last (Broken cause bytes)) writable = lacks-by 32 (codes "broken") 
 -- a text that has these parts, and is a line
 pub line-cut : (first rest : List ℕ) → Lacks 32 first → (line : LogLine) → IsWritable line → first ++ 32 ∷ rest ≡ line_words line
     → (first ≡ first_words line) × (rest ≡ rest_words line)
-line-cut first rest lacks line writable same = cut-once 32 first rest (first_words line) (rest_words line) lacks (first-lacks line writable) (same ∙ line-parts line)
+line-cut first rest lacks line writable same = cut-once 32 first rest (first_words line) (rest_words line) lacks (first-lacks line writable)
+    (same ∙ line-parts line)
 
 -- no number is printed so
 pub no-word : (n : ℕ) → n < 2 ^ 64 → decimal n ≡ codes "broken" → ⊥
@@ -94,8 +97,10 @@ IsBehind words (Last (Ended reading ending)) = words ≡ ending_words ending
 IsBehind words (Last (Broken cause bytes)) = ⊥
 
 -- a text behind a reading, and is a line
-pub behind : (reading : ℕ) (words : List ℕ) → IsInstant reading → (line : LogLine) → IsWritable line → decimal reading ++ 32 ∷ words ≡ line_words line → IsBehind words line
-behind reading words fits line writable same = by line (line-cut (decimal reading) words (number-lacks 32 reading (omega arith) (omega (arith, fits))) line writable same)
+pub behind : (reading : ℕ) (words : List ℕ) → IsInstant reading → (line : LogLine) → IsWritable line → decimal reading ++ 32 ∷ words ≡ line_words line
+    → IsBehind words line
+behind reading words fits line writable same = by line (line-cut (decimal reading) words (number-lacks 32 reading (omega arith) (omega (arith, fits))) line
+    writable same)
   where
     by : (line : LogLine) → (decimal reading ≡ first_words line) × (words ≡ rest_words line) → IsBehind words line
     by (Event event) parts = parts.1
@@ -137,7 +142,8 @@ pub no_space : (text : List ℕ) → Lacks 32 text → IsNoLine text
 no_space text lacks line writable same = stands 32 (first_words line) (rest_words line) (subst (Lacks 32) (same ∙ line-parts line) lacks)
 
 -- nor is one whose first word is neither `broken` nor a reading
-pub no_reading : (first rest : List ℕ) → Lacks 32 first → (first ≢ codes "broken") → ((n : ℕ) → n ≤ 1_000_000_000_000_000 → first ≢ decimal n) → IsNoLine (first ++ 32 ∷ rest)
+pub no_reading : (first rest : List ℕ) → Lacks 32 first → (first ≢ codes "broken") → ((n : ℕ) → n ≤ 1_000_000_000_000_000 → first ≢ decimal n)
+    → IsNoLine (first ++ 32 ∷ rest)
 no_reading first rest lacks no_broken none line writable same = by line writable (line-cut first rest lacks line writable same)
   where
     by : (line : LogLine) → IsWritable line → (first ≡ first_words line) × (rest ≡ rest_words line) → ⊥
@@ -149,13 +155,15 @@ no_reading first rest lacks no_broken none line writable same = by line writable
     by (Last (Broken cause bytes)) writable parts = no_broken parts.0
 
 -- words without a space, other than `end` and `open`
-pub no_single : (reading : ℕ) (words : List ℕ) → IsInstant reading → Lacks 32 words → (words ≢ codes "end") → (words ≢ codes "open") → IsNoLine (decimal reading ++ 32 ∷ words)
+pub no_single : (reading : ℕ) (words : List ℕ) → IsInstant reading → Lacks 32 words → (words ≢ codes "end") → (words ≢ codes "open")
+    → IsNoLine (decimal reading ++ 32 ∷ words)
 no_single reading words fits lacks no_end no_open line writable same = by line (behind reading words fits line writable same)
   where
     by : (line : LogLine) → IsBehind words line → ⊥
     by (Event (Piece len instant)) is = stands 32 (codes "piece") (decimal len) (subst (Lacks 32) is lacks)
     by (Event (SourceEnd instant)) is = no_end is
-    by (Event (Wrote slice at)) is = stands 32 (codes "wrote") ((decimal slice.span.start ++ codes ".." ++ decimal slice.span.stop) ++ 32 ∷ decimal slice.instant) (subst (Lacks 32) is lacks)
+    by (Event (Wrote slice at)) is = stands 32 (codes "wrote") ((decimal slice.span.start ++ codes ".." ++ decimal slice.span.stop) ++ 32
+        ∷ decimal slice.instant) (subst (Lacks 32) is lacks)
     by (SourceReset instant) is = stands 32 (codes "end") (codes "reset") (subst (Lacks 32) is lacks)
     by (Last (Ended at StillOpen)) is = no_open is
     by (Last (Ended at (ClosedAt t))) is = stands 32 (codes "closed") (decimal t) (subst (Lacks 32) is lacks)
@@ -163,13 +171,15 @@ no_single reading words fits lacks no_end no_open line writable same = by line (
     by (Last (Broken cause bytes)) is = is
 
 -- a piece of no number
-pub no_piece : (reading : ℕ) (bytes : List ℕ) → IsInstant reading → ((n : ℕ) → n ≤ 16_384 → bytes ≢ decimal n) → IsNoLine (decimal reading ++ 32 ∷ (codes "piece" ++ 32 ∷ bytes))
+pub no_piece : (reading : ℕ) (bytes : List ℕ) → IsInstant reading → ((n : ℕ) → n ≤ 16_384 → bytes ≢ decimal n)
+    → IsNoLine (decimal reading ++ 32 ∷ (codes "piece" ++ 32 ∷ bytes))
 no_piece reading bytes fits none line writable same = by line writable (behind reading (codes "piece" ++ 32 ∷ bytes) fits line writable same)
   where
     by : (line : LogLine) → IsWritable line → IsBehind (codes "piece" ++ 32 ∷ bytes) line → ⊥
     by (Event (Piece len instant)) writable is = let number : bytes ≡ decimal len = cc in none len writable.1 number
     by (Event (SourceEnd instant)) writable is = other-word (codes "piece" ++ 32 ∷ bytes) (codes "end") refl is
-    by (Event (Wrote slice at)) writable is = other-word (codes "piece" ++ 32 ∷ bytes) (codes "wrote" ++ 32 ∷ ((decimal slice.span.start ++ codes ".." ++ decimal slice.span.stop) ++ 32 ∷ decimal slice.instant)) refl is
+    by (Event (Wrote slice at)) writable is = other-word (codes "piece" ++ 32 ∷ bytes)
+        (codes "wrote" ++ 32 ∷ ((decimal slice.span.start ++ codes ".." ++ decimal slice.span.stop) ++ 32 ∷ decimal slice.instant)) refl is
     by (SourceReset instant) writable is = other-word (codes "piece" ++ 32 ∷ bytes) (codes "end" ++ 32 ∷ codes "reset") refl is
     by (Last (Ended at StillOpen)) writable is = other-word (codes "piece" ++ 32 ∷ bytes) (codes "open") refl is
     by (Last (Ended at (ClosedAt t))) writable is = other-word (codes "piece" ++ 32 ∷ bytes) (codes "closed" ++ 32 ∷ decimal t) refl is
@@ -183,7 +193,8 @@ no_end reading how fits none line writable same = by line writable (behind readi
     by : (line : LogLine) → IsWritable line → IsBehind (codes "end" ++ 32 ∷ how) line → ⊥
     by (Event (Piece len instant)) writable is = other-word (codes "end" ++ 32 ∷ how) (codes "piece" ++ 32 ∷ decimal len) refl is
     by (Event (SourceEnd instant)) writable is = stands 32 (codes "end") how (subst (Lacks 32) (sym is) (lacks-by 32 (codes "end") refl))
-    by (Event (Wrote slice at)) writable is = other-word (codes "end" ++ 32 ∷ how) (codes "wrote" ++ 32 ∷ ((decimal slice.span.start ++ codes ".." ++ decimal slice.span.stop) ++ 32 ∷ decimal slice.instant)) refl is
+    by (Event (Wrote slice at)) writable is = other-word (codes "end" ++ 32 ∷ how)
+        (codes "wrote" ++ 32 ∷ ((decimal slice.span.start ++ codes ".." ++ decimal slice.span.stop) ++ 32 ∷ decimal slice.instant)) refl is
     by (SourceReset instant) writable is = let word : how ≡ codes "reset" = cc in none word
     by (Last (Ended at StillOpen)) writable is = other-word (codes "end" ++ 32 ∷ how) (codes "open") refl is
     by (Last (Ended at (ClosedAt t))) writable is = other-word (codes "end" ++ 32 ∷ how) (codes "closed" ++ 32 ∷ decimal t) refl is
@@ -192,7 +203,8 @@ no_end reading how fits none line writable same = by line writable (behind readi
 
 -- a slice whose words are none of a slice
 pub no_wrote : (reading : ℕ) (words : List ℕ) → IsInstant reading
-    → ((slice : Slice) → IsWritableSpan slice.span → IsInstant slice.instant → words ≢ (decimal slice.span.start ++ codes ".." ++ decimal slice.span.stop) ++ 32 ∷ decimal slice.instant)
+    → ((slice : Slice) → IsWritableSpan slice.span → IsInstant slice.instant
+    → words ≢ (decimal slice.span.start ++ codes ".." ++ decimal slice.span.stop) ++ 32 ∷ decimal slice.instant)
     → IsNoLine (decimal reading ++ 32 ∷ (codes "wrote" ++ 32 ∷ words))
 no_wrote reading words fits none line writable same = by line writable (behind reading (codes "wrote" ++ 32 ∷ words) fits line writable same)
   where
@@ -212,14 +224,18 @@ no_wrote reading words fits none line writable same = by line writable (behind r
 pub range-lacks : (span : Span) → IsWritableSpan span → Lacks 32 (decimal span.start ++ codes ".." ++ decimal span.stop)
 range-lacks span writable =
     All-append (λ other. other ≢ 32) (decimal span.start ++ codes "..") (decimal span.stop)
-    (All-append (λ other. other ≢ 32) (decimal span.start) (codes "..") (number-lacks 32 span.start (omega arith) (omega (arith, writable.0))) (lacks-by 32 (codes "..") refl))
+    (All-append (λ other. other ≢ 32) (decimal span.start) (codes "..") (number-lacks 32 span.start (omega arith) (omega (arith, writable.0)))
+    (lacks-by 32 (codes "..") refl))
     (number-lacks 32 span.stop (omega arith) (omega (arith, writable.1)))
 
 -- a word with a number behind it, where it is no event's
-pub no_ending : (reading : ℕ) (name instant : List ℕ) → IsInstant reading → Lacks 32 name → (name ≢ codes "piece") → (name ≢ codes "wrote") → (name ≢ codes "end")
-    → (name ≡ codes "closed" → (n : ℕ) → n ≤ 1_000_000_000_000_000 → instant ≢ decimal n) → (name ≡ codes "reset" → (n : ℕ) → n ≤ 1_000_000_000_000_000 → instant ≢ decimal n)
+pub no_ending : (reading : ℕ) (name instant : List ℕ) → IsInstant reading → Lacks 32 name → (name ≢ codes "piece") → (name ≢ codes "wrote")
+    → (name ≢ codes "end")
+    → (name ≡ codes "closed" → (n : ℕ) → n ≤ 1_000_000_000_000_000 → instant ≢ decimal n)
+    → (name ≡ codes "reset" → (n : ℕ) → n ≤ 1_000_000_000_000_000 → instant ≢ decimal n)
     → IsNoLine (decimal reading ++ 32 ∷ (name ++ 32 ∷ instant))
-no_ending reading name instant fits lacks piece wrote ended closed reset line writable same = by line writable (behind reading (name ++ 32 ∷ instant) fits line writable same)
+no_ending reading name instant fits lacks piece wrote ended closed reset line writable same =
+    by line writable (behind reading (name ++ 32 ∷ instant) fits line writable same)
   where
     cut : (word rest : List ℕ) → Lacks 32 word → name ++ 32 ∷ instant ≡ word ++ 32 ∷ rest → (name ≡ word) × (instant ≡ rest)
     cut word rest = cut-once 32 name instant word rest lacks
@@ -230,22 +246,29 @@ no_ending reading name instant fits lacks piece wrote ended closed reset line wr
     by : (line : LogLine) → IsWritable line → IsBehind (name ++ 32 ∷ instant) line → ⊥
     by (Event (Piece len t)) writable is = piece (cut (codes "piece") (decimal len) (lacks-by 32 (codes "piece") refl) is).0
     by (Event (SourceEnd t)) writable is = single (codes "end") (lacks-by 32 (codes "end") refl) is
-    by (Event (Wrote slice at)) writable is = wrote (cut (codes "wrote") ((decimal slice.span.start ++ codes ".." ++ decimal slice.span.stop) ++ 32 ∷ decimal slice.instant) (lacks-by 32 (codes "wrote") refl) is).0
+    by (Event (Wrote slice at)) writable is = wrote (cut (codes "wrote")
+        ((decimal slice.span.start ++ codes ".." ++ decimal slice.span.stop) ++ 32 ∷ decimal slice.instant) (lacks-by 32 (codes "wrote") refl) is).0
     by (SourceReset t) writable is = ended (cut (codes "end") (codes "reset") (lacks-by 32 (codes "end") refl) is).0
     by (Last (Ended at StillOpen)) writable is = single (codes "open") (lacks-by 32 (codes "open") refl) is
-    by (Last (Ended at (ClosedAt t))) writable is = let parts = cut (codes "closed") (decimal t) (lacks-by 32 (codes "closed") refl) is in closed parts.0 t writable.1 parts.1
-    by (Last (Ended at (ResetAt t))) writable is = let parts = cut (codes "reset") (decimal t) (lacks-by 32 (codes "reset") refl) is in reset parts.0 t writable.1 parts.1
+    by (Last (Ended at (ClosedAt t))) writable is = let parts = cut (codes "closed") (decimal t) (lacks-by 32 (codes "closed") refl) is in
+        closed parts.0 t writable.1 parts.1
+    by (Last (Ended at (ResetAt t))) writable is = let parts = cut (codes "reset") (decimal t) (lacks-by 32 (codes "reset") refl) is in
+        reset parts.0 t writable.1 parts.1
     by (Last (Broken cause bytes)) writable is = is
 
 -- `broken` and no two words
-pub no_broken : (words : List ℕ) → ((cause : BreakCause) (bytes : ℕ) → bytes ≤ 2 ^ 40 → words ≢ cause_name cause ++ 32 ∷ decimal bytes) → IsNoLine (codes "broken" ++ 32 ∷ words)
+pub no_broken : (words : List ℕ) → ((cause : BreakCause) (bytes : ℕ) → bytes ≤ 2 ^ 40 → words ≢ cause_name cause ++ 32 ∷ decimal bytes)
+    → IsNoLine (codes "broken" ++ 32 ∷ words)
 no_broken words none line writable same = let (cause, bytes, fits, is) = behind-broken words line writable same in none cause bytes fits is
 
 -- the name of a cause, cut off
-pub cause-cut : (name rest : List ℕ) (cause : BreakCause) (bytes : ℕ) → Lacks 32 name → name ++ 32 ∷ rest ≡ cause_name cause ++ 32 ∷ decimal bytes → (name ≡ cause_name cause) × (rest ≡ decimal bytes)
+pub cause-cut : (name rest : List ℕ) (cause : BreakCause) (bytes : ℕ) → Lacks 32 name → name ++ 32 ∷ rest ≡ cause_name cause ++ 32 ∷ decimal bytes
+    → (name ≡ cause_name cause) × (rest ≡ decimal bytes)
 cause-cut name rest cause bytes lacks = cut-once 32 name rest (cause_name cause) (decimal bytes) lacks (cause-lacks cause)
 
 -- a range, cut at its first point
-pub span-cut : (start rest : List ℕ) (span : Span) → IsWritableSpan span → Lacks 46 start → start ++ 46 ∷ rest ≡ decimal span.start ++ codes ".." ++ decimal span.stop → (start ≡ decimal span.start) × (rest ≡ 46 ∷ decimal span.stop)
+pub span-cut : (start rest : List ℕ) (span : Span) → IsWritableSpan span → Lacks 46 start
+    → start ++ 46 ∷ rest ≡ decimal span.start ++ codes ".." ++ decimal span.stop → (start ≡ decimal span.start) × (rest ≡ 46 ∷ decimal span.stop)
 span-cut start rest span writable lacks same =
-    cut-once 46 start rest (decimal span.start) (46 ∷ decimal span.stop) lacks (number-lacks 46 span.start (omega arith) (omega (arith, writable.0))) (same ∙ simp append_assoc)
+    cut-once 46 start rest (decimal span.start) (46 ∷ decimal span.stop) lacks (number-lacks 46 span.start (omega arith) (omega (arith, writable.0)))
+    (same ∙ simp append_assoc)

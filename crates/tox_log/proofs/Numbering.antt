@@ -36,29 +36,35 @@ behind-lacks start (byte ∷ text) lacks =
 
 behind-one : (start : ℕ) (line : LogLine) → IsWritable line → number_behind start (line_words line ++ 10 ∷ []) ≡ start + 1
 behind-one start line writable =
-    behind-append start (line_words line) (10 ∷ []) ∙ ap (λ start. number_behind start (10 ∷ [])) (behind-lacks start (line_words line) (line-feedless line writable))
+    behind-append start (line_words line) (10 ∷ []) ∙ ap (λ start. number_behind start (10 ∷ []))
+    (behind-lacks start (line_words line) (line-feedless line writable))
 
 -- a line more
-pub behind-line : (start : ℕ) (text : List ℕ) (line : LogLine) → IsWritable line → number_behind start (text ++ (line_words line ++ 10 ∷ [])) ≡ number_behind start text + 1
+pub behind-line : (start : ℕ) (text : List ℕ) (line : LogLine) → IsWritable line
+    → number_behind start (text ++ (line_words line ++ 10 ∷ [])) ≡ number_behind start text + 1
 behind-line start text line writable = behind-append start text (line_words line ++ 10 ∷ []) ∙ behind-one (number_behind start text) line writable
 
-behind-events : (reset : Bool) (start : ℕ) (events : List LinkEvent) → All (λ event. IsWritable (Event event)) events → number_behind start (event_lines reset events) ≡ start + length events
+behind-events : (reset : Bool) (start : ℕ) (events : List LinkEvent) → All (λ event. IsWritable (Event event)) events
+    → number_behind start (event_lines reset events) ≡ start + length events
 behind-events reset start [] written = omega arith
 behind-events reset start (event ∷ events) written =
     let rest = behind-events reset (start + 1) events (All-tail (λ event. IsWritable (Event event)) event events written) in
     let line : LogLine = logged_line reset event in
     behind-append start (line_words line ++ 10 ∷ []) (event_lines reset events)
-    ∙ ap (λ start. number_behind start (event_lines reset events)) (behind-one start line (logged-writable reset event (All-head (λ event. IsWritable (Event event)) event events written)))
+    ∙ ap (λ start. number_behind start (event_lines reset events)) (behind-one start line
+    (logged-writable reset event (All-head (λ event. IsWritable (Event event)) event events written)))
     ∙ omega (arith, rest)
 
 -- the lines of events
-pub behind-heard : (start : ℕ) (means : List Item → List Item) (text : List ℕ) (hearing : Hearing) (heard : HasHeard means text hearing) → number_behind start text ≡ start + length heard.events
+pub behind-heard : (start : ℕ) (means : List Item → List Item) (text : List ℕ) (hearing : Hearing) (heard : HasHeard means text hearing)
+    → number_behind start text ≡ start + length heard.events
 behind-heard start means text hearing heard = ap (number_behind start) heard.lines ∙ behind-events hearing.source_reset start heard.events heard.written
 
 -- The lines of the header
 
 -- a toxic's line was read and added
-pub numbers-toxic : (old middle new : OpenLog) → CountsOn old.number middle.number → middle.chain ≡ old.chain → new.number ≡ middle.number → AddsToxic middle new
+pub numbers-toxic : (old middle new : OpenLog) → CountsOn old.number middle.number → middle.chain ≡ old.chain → new.number ≡ middle.number
+    → AddsToxic middle new
     → IsLineNumber old.number (3 + length old.chain.entries) → IsLineNumber new.number (3 + length new.chain.entries)
 numbers-toxic old middle new counts chain number added is =
     let more : length new.chain.entries ≡ length middle.chain.entries + 1 = ap length added.chain ∙ length-append middle.chain.entries (added.entry ∷ []) in
@@ -74,7 +80,8 @@ numbers-end old new waits number chain is =
     λ fits. let here = is (omega (arith, fits, same)) in omega (arith, here, number, same, next)
 
 -- or one that waits
-pub numbers-other : (old middle new : OpenLog) → CountsOn old.number middle.number → middle.chain ≡ old.chain → new.number ≡ middle.number → new.chain ≡ middle.chain
+pub numbers-other : (old middle new : OpenLog) → CountsOn old.number middle.number → middle.chain ≡ old.chain → new.number ≡ middle.number
+    → new.chain ≡ middle.chain
     → IsLineNumber old.number (3 + length old.chain.entries) → IsLineNumber new.number (4 + length new.chain.entries)
 numbers-other old middle new counts chain number kept is =
     let same : length new.chain.entries ≡ length old.chain.entries = ap (λ (chain : Toxics). length chain.entries) (kept ∙ chain) in
@@ -93,7 +100,8 @@ numbers-waited old new waited waits number line is =
     )
 
 -- or the next one
-pub numbers-read : (old new : OpenLog) → old.waits ≡ false → new.waits ≡ false → CountsOn old.number new.number → (line : ℕ) → IsLineNumber (next_number old) line
+pub numbers-read : (old new : OpenLog) → old.waits ≡ false → new.waits ≡ false → CountsOn old.number new.number → (line : ℕ)
+    → IsLineNumber (next_number old) line
     → IsLineNumber new.number line × IsLineNumber (next_number new) (line + 1)
 numbers-read old new waited waits counts line is =
     let before : next_number old ≡ old.number + 1 = ap (λ waits. if waits then old.number else old.number + 1) waited in

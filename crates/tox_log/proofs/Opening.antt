@@ -1,5 +1,6 @@
 -- The lines of a header, one behind the other.
-use Rattle.std.proofs.Common.{◌≡◌, ℕ, true, false, List, [], ◌∷◌, ◌++◌, map, string_bytes, Option, inl, inr, refl, sym, ap, subst, ◌∙◌, append_assoc, append-nil}
+use Rattle.std.proofs.Common.{◌≡◌, ℕ, true, false, List, [], ◌∷◌, ◌++◌, map, string_bytes, Option, inl, inr, refl, sym, ap, subst, ◌∙◌, append_assoc}
+use Rattle.std.proofs.Common.{append-nil}
 use Rattle.std.specs.Prelude.{◌⊎◌, if◌then◌else◌}
 use Rattle.std.specs.List.{zip}
 use Rattle.std.specs.Io.KnownBytes.{IsAtEnd, prepend_known}
@@ -28,7 +29,8 @@ pub record HasRead (old now : OpenLog) (before after : Option (List ℕ)) : Type
   pub given : to_take old.lines before ≡ prepend_known (named_lines toxics) (to_take now.lines after)
 
 -- none yet
-pub read-none : (log : OpenLog) (remaining : Option (List ℕ)) → to_take log.lines remaining ≡ prepend_known [] (to_take log.lines remaining) → HasRead log log remaining remaining
+pub read-none : (log : OpenLog) (remaining : Option (List ℕ)) → to_take log.lines remaining ≡ prepend_known [] (to_take log.lines remaining)
+    → HasRead log log remaining remaining
 read-none log remaining same = record { toxics = []; chain = sym (append-nil log.chain.entries); given = same }
 
 -- the line that was taken, in the bytes that it comes from
@@ -38,24 +40,29 @@ line-taken old new before after (text, takes, lacks) short =
     takes.given ∙ ap (λ line. prepend_known (line ++ 10 ∷ []) (to_take new after)) (sym (takes.line.0 short))
 
 -- one more
-pub read-one : (old mid next new : OpenLog) (before between after : Option (List ℕ)) → HasRead old mid before between → TakesLine mid.lines next.lines between after → next.chain ≡ mid.chain
+pub read-one : (old mid next new : OpenLog) (before between after : Option (List ℕ)) → HasRead old mid before between
+    → TakesLine mid.lines next.lines between after → next.chain ≡ mid.chain
     → AddsToxic next new → new.lines ≡ next.lines → HasRead old new before after
 read-one old mid next new before between after read line kept adds same =
     let given = line-taken mid.lines next.lines between after line adds.short in
     let whole : to_take old.lines before ≡ prepend_known (named_lines read.toxics ++ toxic_line adds.entry adds.name) (to_take next.lines after) =
-    prepend_more (named_lines read.toxics) (toxic_line adds.entry adds.name) (to_take old.lines before) (to_take mid.lines between) (to_take next.lines after) read.given
+    prepend_more (named_lines read.toxics) (toxic_line adds.entry adds.name) (to_take old.lines before) (to_take mid.lines between) (to_take next.lines after)
+    read.given
     (given ∙ ap (λ line. prepend_known line (to_take next.lines after)) adds.line) in
     let lines : named_lines (read.toxics ++ (adds.entry, adds.name) ∷ []) ≡ named_lines read.toxics ++ toxic_line adds.entry adds.name =
-    flat_map-append (λ named. toxic_line named.0 named.1) read.toxics ((adds.entry, adds.name) ∷ []) ∙ ap (λ last. named_lines read.toxics ++ last) (append-nil (toxic_line adds.entry adds.name)) in record {
+    flat_map-append (λ named. toxic_line named.0 named.1) read.toxics ((adds.entry, adds.name) ∷ [])
+    ∙ ap (λ last. named_lines read.toxics ++ last) (append-nil (toxic_line adds.entry adds.name)) in record {
       toxics = read.toxics ++ (adds.entry, adds.name) ∷ [];
       chain = adds.chain ∙ ap (λ chain. chain.entries ++ adds.entry ∷ []) kept ∙ ap (λ entries. entries ++ adds.entry ∷ []) read.chain
           ∙ append_assoc old.chain.entries (map (λ named. named.0) read.toxics) (adds.entry ∷ [])
           ∙ ap (λ entries. old.chain.entries ++ entries) (sym (map-append (λ named. named.0) read.toxics ((adds.entry, adds.name) ∷ [])));
-      given = whole ∙ ap (λ bytes. prepend_known bytes (to_take next.lines after)) (sym lines) ∙ ap (λ lines. prepend_known (named_lines (read.toxics ++ (adds.entry, adds.name) ∷ [])) (to_take lines after)) (sym same);
+      given = whole ∙ ap (λ bytes. prepend_known bytes (to_take next.lines after)) (sym lines)
+          ∙ ap (λ lines. prepend_known (named_lines (read.toxics ++ (adds.entry, adds.name) ∷ [])) (to_take lines after)) (sym same);
     }
 
 -- the line behind them waits
-pub read-waits : (old mid next new : OpenLog) (before between after : Option (List ℕ)) → HasRead old mid before between → TakesLine mid.lines next.lines between after → next.chain ≡ mid.chain
+pub read-waits : (old mid next new : OpenLog) (before between after : Option (List ℕ)) → HasRead old mid before between
+    → TakesLine mid.lines next.lines between after → next.chain ≡ mid.chain
     → next.lines.long ≡ false → new.chain ≡ next.chain → new.lines ≡ next.lines → new.waits ≡ true → ReadsToxics old new before after
 read-waits old mid next new before between after read line kept short chain same waits =
     let handed : to_hand new after ≡ prepend_known (next.lines.line.items ++ 10 ∷ []) (to_take next.lines after) =
@@ -71,7 +78,8 @@ read-waits old mid next new before between after read line kept short chain same
     }
 
 -- no line comes behind them
-pub read-ends : (old mid next : OpenLog) (before between after : Option (List ℕ)) → HasRead old mid before between → TakesRest mid.lines next.lines between after → next.chain ≡ mid.chain
+pub read-ends : (old mid next : OpenLog) (before between after : Option (List ℕ)) → HasRead old mid before between
+    → TakesRest mid.lines next.lines between after → next.chain ≡ mid.chain
     → next.waits ≡ false → ReadsToxics old next before after
 read-ends old mid next before between after read rest kept going =
     let handed : to_hand next after ≡ to_take next.lines after =
@@ -90,10 +98,13 @@ zip-pairs [] = refl
 zip-pairs (pair ∷ pairs) = ap (λ rest. pair ∷ rest) (zip-pairs pairs)
 
 -- the whole header
-opens-so : (first : LineReader) (start log : OpenLog) (before between after : Option (List ℕ)) (name : List ℕ) (number seed : ℕ) (direction : Stream) (lanes : Lanes)
-    → waiting first ≡ [] → to_take first before ≡ prepend_known (heading_lines name number direction lanes seed) (to_take start.lines between) → start.chain.entries ≡ []
+opens-so : (first : LineReader) (start log : OpenLog) (before between after : Option (List ℕ)) (name : List ℕ) (number seed : ℕ) (direction : Stream)
+    (lanes : Lanes)
+    → waiting first ≡ [] → to_take first before ≡ prepend_known (heading_lines name number direction lanes seed) (to_take start.lines between)
+    → start.chain.entries ≡ []
     → log.chain.lanes ≡ lanes → ReadsToxics start log between after
-    → (names : List (List ℕ)) × (torn : List ℕ) × (before ≡ prepend_known (header_text name number direction seed log.chain names ++ torn) (to_hand log after)) × ((torn ≡ []) ⊎ IsAtEnd (to_hand log after))
+    → (names : List (List ℕ)) × (torn : List ℕ) × (before ≡ prepend_known (header_text name number direction seed log.chain names ++ torn) (to_hand log after))
+    × ((torn ≡ []) ⊎ IsAtEnd (to_hand log after))
     × Lacks 10 torn
 opens-so first start log before between after name number seed direction lanes fresh heading none same read =
     let names = map (λ named. named.1) read.toxics in
@@ -102,24 +113,31 @@ opens-so first start log before between after name number seed direction lanes f
     let lines : toxic_lines log.chain.entries names ≡ named_lines read.toxics =
     ap (λ entries. toxic_lines entries names) entries ∙ ap named_lines (zip-pairs read.toxics) in
     let header : header_text name number direction seed log.chain names ≡ heading_lines name number direction lanes seed ++ named_lines read.toxics =
-    ap (λ lanes. heading_lines name number direction lanes seed ++ toxic_lines log.chain.entries names) same ∙ ap (λ lines. heading_lines name number direction lanes seed ++ lines) lines in (
+    ap (λ lanes. heading_lines name number direction lanes seed ++ toxic_lines log.chain.entries names) same
+    ∙ ap (λ lines. heading_lines name number direction lanes seed ++ lines) lines in (
       names,
       read.torn,
-      all ∙ prepend_more (heading_lines name number direction lanes seed) (named_lines read.toxics ++ read.torn) (to_take first before) (to_take start.lines between) (to_hand log after) heading read.given
-          ∙ ap (λ bytes. prepend_known bytes (to_hand log after)) (sym (append_assoc (heading_lines name number direction lanes seed) (named_lines read.toxics) read.torn) ∙ ap (λ header. header ++ read.torn) (sym header)),
+      all ∙ prepend_more (heading_lines name number direction lanes seed) (named_lines read.toxics ++ read.torn) (to_take first before)
+          (to_take start.lines between) (to_hand log after) heading read.given
+          ∙ ap (λ bytes. prepend_known bytes (to_hand log after)) (sym (append_assoc (heading_lines name number direction lanes seed) (named_lines read.toxics)
+          read.torn) ∙ ap (λ header. header ++ read.torn) (sym header)),
       read.rest,
       read.unended,
     )
 
 -- the log that is read now
 pub opens : (first : LineReader) (start log : OpenLog) (before between after : Option (List ℕ)) (heading : Heading) → waiting first ≡ []
-    → to_take first before ≡ prepend_known (heading_lines (string_bytes heading.proxy) heading.number heading.stream heading.lanes heading.seed) (to_take start.lines between)
-    → start.chain.entries ≡ [] → log.heading ≡ heading → log.over ≡ false → log.chain.lanes ≡ heading.lanes → log.heard ≡ first_position → ReadsToxics start log between after → Opens before after log
+    → to_take first before ≡ prepend_known (heading_lines (string_bytes heading.proxy) heading.number heading.stream heading.lanes heading.seed)
+    (to_take start.lines between)
+    → start.chain.entries ≡ [] → log.heading ≡ heading → log.over ≡ false → log.chain.lanes ≡ heading.lanes → log.heard ≡ first_position
+    → ReadsToxics start log between after → Opens before after log
 opens first start log before between after heading fresh lines none is going same begun read =
-    let (names, torn, given, rest, unended) = opens-so first start log before between after (string_bytes heading.proxy) heading.number heading.seed heading.stream heading.lanes fresh lines none same read in record {
+    let (names, torn, given, rest, unended) = opens-so first start log before between after (string_bytes heading.proxy) heading.number heading.seed
+    heading.stream heading.lanes fresh lines none same read in record {
       names = names;
       torn = torn;
-      given = subst (λ h. before ≡ prepend_known (header_text (string_bytes h.proxy) h.number h.stream h.seed log.chain names ++ torn) (to_hand log after)) (sym is) given;
+      given = subst (λ h. before ≡ prepend_known (header_text (string_bytes h.proxy) h.number h.stream h.seed log.chain names ++ torn) (to_hand log after))
+          (sym is) given;
       rest = rest;
       unended = unended;
       going = going;

@@ -16,7 +16,8 @@ use Rattle.tox_log.specs.LastText.{cause_name}
 use Rattle.tox_log.specs.Lines.{line_words, IsWritable, IsWritableSpan, ReadsLine}
 use Rattle.tox_log.specs.Numbers.{Lacks}
 use Rattle.tox_log.proofs.Cuts.{cut-once, number-lacks, stands}
-use Rattle.tox_log.proofs.NoLines.{cause-cut, cause-lacks, first-lacks, first_words, lacks-by, line-cut, line-parts, no-word, other-word, range-lacks, rest_words, span-cut}
+use Rattle.tox_log.proofs.NoLines.{cause-cut, cause-lacks, first-lacks, first_words, lacks-by, line-cut, line-parts, no-word, other-word, range-lacks}
+use Rattle.tox_log.proofs.NoLines.{rest_words, span-cut}
 
 -- numbers up to 10^15 that print the same
 same-instant : (m n : ℕ) → IsInstant m → IsInstant n → decimal m ≡ decimal n → m ≡ n
@@ -32,7 +33,8 @@ span-of start stop = record { start = start; stop = stop }
 abbrev slice-of : Span → ℕ → Slice
 slice-of span instant = record { span = span; instant = instant }
 
-same-span : (a b : Span) → IsWritableSpan a → IsWritableSpan b → decimal a.start ++ codes ".." ++ decimal a.stop ≡ decimal b.start ++ codes ".." ++ decimal b.stop → a ≡ b
+same-span : (a b : Span) → IsWritableSpan a → IsWritableSpan b → decimal a.start ++ codes ".." ++ decimal a.stop
+    ≡ decimal b.start ++ codes ".." ++ decimal b.stop → a ≡ b
 same-span a b a_fits b_fits same =
     let dots : decimal a.start ++ 46 ∷ 46 ∷ decimal a.stop ≡ decimal a.start ++ codes ".." ++ decimal a.stop = simp append_assoc in
     let parts = span-cut (decimal a.start) (46 ∷ decimal a.stop) b b_fits (number-lacks 46 a.start (omega arith) (omega (arith, a_fits.0))) (dots ∙ same) in
@@ -42,9 +44,11 @@ same-span a b a_fits b_fits same =
     ap (λ t. span-of t a.stop) start ∙ ap (span-of b.start) stop
 
 same-slice : (a b : Slice) → IsWritableSpan a.span → IsInstant a.instant → IsWritableSpan b.span → IsInstant b.instant
-    → (decimal a.span.start ++ codes ".." ++ decimal a.span.stop) ++ 32 ∷ decimal a.instant ≡ (decimal b.span.start ++ codes ".." ++ decimal b.span.stop) ++ 32 ∷ decimal b.instant → a ≡ b
+    → (decimal a.span.start ++ codes ".." ++ decimal a.span.stop) ++ 32 ∷ decimal a.instant
+    ≡ (decimal b.span.start ++ codes ".." ++ decimal b.span.stop) ++ 32 ∷ decimal b.instant → a ≡ b
 same-slice a b a_span a_fits b_span b_fits same =
-    let parts = cut-once 32 (decimal a.span.start ++ codes ".." ++ decimal a.span.stop) (decimal a.instant) (decimal b.span.start ++ codes ".." ++ decimal b.span.stop) (decimal b.instant) (range-lacks a.span a_span) (range-lacks b.span b_span) same in
+    let parts = cut-once 32 (decimal a.span.start ++ codes ".." ++ decimal a.span.stop) (decimal a.instant)
+    (decimal b.span.start ++ codes ".." ++ decimal b.span.stop) (decimal b.instant) (range-lacks a.span a_span) (range-lacks b.span b_span) same in
     let span : a.span ≡ b.span = same-span a.span b.span a_span b_span parts.0 in
     let instant : a.instant ≡ b.instant = same-instant a.instant b.instant a_fits b_fits parts.1 in
     ap (λ t. slice-of t a.instant) span ∙ ap (slice-of b.span) instant
@@ -82,67 +86,109 @@ same-parts (Event (Piece an at)) (Event (Piece bn bt)) wa wb first rest =
     let t : at ≡ bt = same-instant at bt wa.0 wb.0 first in
     let digits : decimal an ≡ decimal bn = cc in
     let n : an ≡ bn = same-count an bn (omega (arith, wa.1)) (omega (arith, wb.1)) digits in cc
-same-parts (Event (Piece an at)) (Event (SourceEnd bt)) wa wb first rest = absurd (other-word (rest_words (Event (Piece an at))) (rest_words (Event (SourceEnd bt))) refl rest)
-same-parts (Event (Piece an at)) (Event (Wrote other_slice bt)) wa wb first rest = absurd (other-word (rest_words (Event (Piece an at))) (rest_words (Event (Wrote other_slice bt))) refl rest)
-same-parts (Event (Piece an at)) (SourceReset bt) wa wb first rest = absurd (other-word (rest_words (Event (Piece an at))) (rest_words (SourceReset bt)) refl rest)
-same-parts (Event (Piece an at)) (Last (Ended bt StillOpen)) wa wb first rest = absurd (other-word (rest_words (Event (Piece an at))) (rest_words (Last (Ended bt StillOpen))) refl rest)
-same-parts (Event (Piece an at)) (Last (Ended bt (ClosedAt bu))) wa wb first rest = absurd (other-word (rest_words (Event (Piece an at))) (rest_words (Last (Ended bt (ClosedAt bu)))) refl rest)
-same-parts (Event (Piece an at)) (Last (Ended bt (ResetAt bu))) wa wb first rest = absurd (other-word (rest_words (Event (Piece an at))) (rest_words (Last (Ended bt (ResetAt bu)))) refl rest)
+same-parts (Event (Piece an at)) (Event (SourceEnd bt)) wa wb first rest =
+    absurd (other-word (rest_words (Event (Piece an at))) (rest_words (Event (SourceEnd bt))) refl rest)
+same-parts (Event (Piece an at)) (Event (Wrote other_slice bt)) wa wb first rest =
+    absurd (other-word (rest_words (Event (Piece an at))) (rest_words (Event (Wrote other_slice bt))) refl rest)
+same-parts (Event (Piece an at)) (SourceReset bt) wa wb first rest = absurd
+    (other-word (rest_words (Event (Piece an at))) (rest_words (SourceReset bt)) refl rest)
+same-parts (Event (Piece an at)) (Last (Ended bt StillOpen)) wa wb first rest =
+    absurd (other-word (rest_words (Event (Piece an at))) (rest_words (Last (Ended bt StillOpen))) refl rest)
+same-parts (Event (Piece an at)) (Last (Ended bt (ClosedAt bu))) wa wb first rest =
+    absurd (other-word (rest_words (Event (Piece an at))) (rest_words (Last (Ended bt (ClosedAt bu)))) refl rest)
+same-parts (Event (Piece an at)) (Last (Ended bt (ResetAt bu))) wa wb first rest =
+    absurd (other-word (rest_words (Event (Piece an at))) (rest_words (Last (Ended bt (ResetAt bu)))) refl rest)
 same-parts (Event (Piece an at)) (Last (Broken bc bn)) wa wb first rest = absurd (no-word at (omega (arith, wa.0)) first)
-same-parts (Event (SourceEnd at)) (Event (Piece bn bt)) wa wb first rest = absurd (other-word (rest_words (Event (SourceEnd at))) (rest_words (Event (Piece bn bt))) refl rest)
+same-parts (Event (SourceEnd at)) (Event (Piece bn bt)) wa wb first rest =
+    absurd (other-word (rest_words (Event (SourceEnd at))) (rest_words (Event (Piece bn bt))) refl rest)
 same-parts (Event (SourceEnd at)) (Event (SourceEnd bt)) wa wb first rest =
     let t : at ≡ bt = same-instant at bt wa wb first in cc
-same-parts (Event (SourceEnd at)) (Event (Wrote other_slice bt)) wa wb first rest = absurd (other-word (rest_words (Event (SourceEnd at))) (rest_words (Event (Wrote other_slice bt))) refl rest)
-same-parts (Event (SourceEnd at)) (SourceReset bt) wa wb first rest = absurd (stands 32 (codes "end") (codes "reset") (subst (Lacks 32) rest (lacks-by 32 (codes "end") refl)))
-same-parts (Event (SourceEnd at)) (Last (Ended bt StillOpen)) wa wb first rest = absurd (other-word (rest_words (Event (SourceEnd at))) (rest_words (Last (Ended bt StillOpen))) refl rest)
-same-parts (Event (SourceEnd at)) (Last (Ended bt (ClosedAt bu))) wa wb first rest = absurd (other-word (rest_words (Event (SourceEnd at))) (rest_words (Last (Ended bt (ClosedAt bu)))) refl rest)
-same-parts (Event (SourceEnd at)) (Last (Ended bt (ResetAt bu))) wa wb first rest = absurd (other-word (rest_words (Event (SourceEnd at))) (rest_words (Last (Ended bt (ResetAt bu)))) refl rest)
+same-parts (Event (SourceEnd at)) (Event (Wrote other_slice bt)) wa wb first rest =
+    absurd (other-word (rest_words (Event (SourceEnd at))) (rest_words (Event (Wrote other_slice bt))) refl rest)
+same-parts (Event (SourceEnd at)) (SourceReset bt) wa wb first rest = absurd
+    (stands 32 (codes "end") (codes "reset") (subst (Lacks 32) rest (lacks-by 32 (codes "end") refl)))
+same-parts (Event (SourceEnd at)) (Last (Ended bt StillOpen)) wa wb first rest =
+    absurd (other-word (rest_words (Event (SourceEnd at))) (rest_words (Last (Ended bt StillOpen))) refl rest)
+same-parts (Event (SourceEnd at)) (Last (Ended bt (ClosedAt bu))) wa wb first rest =
+    absurd (other-word (rest_words (Event (SourceEnd at))) (rest_words (Last (Ended bt (ClosedAt bu)))) refl rest)
+same-parts (Event (SourceEnd at)) (Last (Ended bt (ResetAt bu))) wa wb first rest =
+    absurd (other-word (rest_words (Event (SourceEnd at))) (rest_words (Last (Ended bt (ResetAt bu)))) refl rest)
 same-parts (Event (SourceEnd at)) (Last (Broken bc bn)) wa wb first rest = absurd (no-word at (omega (arith, wa)) first)
-same-parts (Event (Wrote first_slice at)) (Event (Piece bn bt)) wa wb first rest = absurd (other-word (rest_words (Event (Wrote first_slice at))) (rest_words (Event (Piece bn bt))) refl rest)
-same-parts (Event (Wrote first_slice at)) (Event (SourceEnd bt)) wa wb first rest = absurd (other-word (rest_words (Event (Wrote first_slice at))) (rest_words (Event (SourceEnd bt))) refl rest)
+same-parts (Event (Wrote first_slice at)) (Event (Piece bn bt)) wa wb first rest =
+    absurd (other-word (rest_words (Event (Wrote first_slice at))) (rest_words (Event (Piece bn bt))) refl rest)
+same-parts (Event (Wrote first_slice at)) (Event (SourceEnd bt)) wa wb first rest =
+    absurd (other-word (rest_words (Event (Wrote first_slice at))) (rest_words (Event (SourceEnd bt))) refl rest)
 same-parts (Event (Wrote first_slice at)) (Event (Wrote other_slice bt)) wa wb first rest =
     let t : at ≡ bt = same-instant at bt wa.0 wb.0 first in
     let slice : first_slice ≡ other_slice = same-slice first_slice other_slice wa.1 wa.2 wb.1 wb.2 cc in cc
-same-parts (Event (Wrote first_slice at)) (SourceReset bt) wa wb first rest = absurd (other-word (rest_words (Event (Wrote first_slice at))) (rest_words (SourceReset bt)) refl rest)
-same-parts (Event (Wrote first_slice at)) (Last (Ended bt StillOpen)) wa wb first rest = absurd (other-word (rest_words (Event (Wrote first_slice at))) (rest_words (Last (Ended bt StillOpen))) refl rest)
-same-parts (Event (Wrote first_slice at)) (Last (Ended bt (ClosedAt bu))) wa wb first rest = absurd (other-word (rest_words (Event (Wrote first_slice at))) (rest_words (Last (Ended bt (ClosedAt bu)))) refl rest)
-same-parts (Event (Wrote first_slice at)) (Last (Ended bt (ResetAt bu))) wa wb first rest = absurd (other-word (rest_words (Event (Wrote first_slice at))) (rest_words (Last (Ended bt (ResetAt bu)))) refl rest)
+same-parts (Event (Wrote first_slice at)) (SourceReset bt) wa wb first rest =
+    absurd (other-word (rest_words (Event (Wrote first_slice at))) (rest_words (SourceReset bt)) refl rest)
+same-parts (Event (Wrote first_slice at)) (Last (Ended bt StillOpen)) wa wb first rest =
+    absurd (other-word (rest_words (Event (Wrote first_slice at))) (rest_words (Last (Ended bt StillOpen))) refl rest)
+same-parts (Event (Wrote first_slice at)) (Last (Ended bt (ClosedAt bu))) wa wb first rest =
+    absurd (other-word (rest_words (Event (Wrote first_slice at))) (rest_words (Last (Ended bt (ClosedAt bu)))) refl rest)
+same-parts (Event (Wrote first_slice at)) (Last (Ended bt (ResetAt bu))) wa wb first rest =
+    absurd (other-word (rest_words (Event (Wrote first_slice at))) (rest_words (Last (Ended bt (ResetAt bu)))) refl rest)
 same-parts (Event (Wrote first_slice at)) (Last (Broken bc bn)) wa wb first rest = absurd (no-word at (omega (arith, wa.0)) first)
-same-parts (SourceReset at) (Event (Piece bn bt)) wa wb first rest = absurd (other-word (rest_words (SourceReset at)) (rest_words (Event (Piece bn bt))) refl rest)
-same-parts (SourceReset at) (Event (SourceEnd bt)) wa wb first rest = absurd (stands 32 (codes "end") (codes "reset") (subst (Lacks 32) (sym rest) (lacks-by 32 (codes "end") refl)))
-same-parts (SourceReset at) (Event (Wrote other_slice bt)) wa wb first rest = absurd (other-word (rest_words (SourceReset at)) (rest_words (Event (Wrote other_slice bt))) refl rest)
+same-parts (SourceReset at) (Event (Piece bn bt)) wa wb first rest = absurd
+    (other-word (rest_words (SourceReset at)) (rest_words (Event (Piece bn bt))) refl rest)
+same-parts (SourceReset at) (Event (SourceEnd bt)) wa wb first rest = absurd
+    (stands 32 (codes "end") (codes "reset") (subst (Lacks 32) (sym rest) (lacks-by 32 (codes "end") refl)))
+same-parts (SourceReset at) (Event (Wrote other_slice bt)) wa wb first rest =
+    absurd (other-word (rest_words (SourceReset at)) (rest_words (Event (Wrote other_slice bt))) refl rest)
 same-parts (SourceReset at) (SourceReset bt) wa wb first rest =
     let t : at ≡ bt = same-instant at bt wa wb first in cc
-same-parts (SourceReset at) (Last (Ended bt StillOpen)) wa wb first rest = absurd (other-word (rest_words (SourceReset at)) (rest_words (Last (Ended bt StillOpen))) refl rest)
-same-parts (SourceReset at) (Last (Ended bt (ClosedAt bu))) wa wb first rest = absurd (other-word (rest_words (SourceReset at)) (rest_words (Last (Ended bt (ClosedAt bu)))) refl rest)
-same-parts (SourceReset at) (Last (Ended bt (ResetAt bu))) wa wb first rest = absurd (other-word (rest_words (SourceReset at)) (rest_words (Last (Ended bt (ResetAt bu)))) refl rest)
+same-parts (SourceReset at) (Last (Ended bt StillOpen)) wa wb first rest =
+    absurd (other-word (rest_words (SourceReset at)) (rest_words (Last (Ended bt StillOpen))) refl rest)
+same-parts (SourceReset at) (Last (Ended bt (ClosedAt bu))) wa wb first rest =
+    absurd (other-word (rest_words (SourceReset at)) (rest_words (Last (Ended bt (ClosedAt bu)))) refl rest)
+same-parts (SourceReset at) (Last (Ended bt (ResetAt bu))) wa wb first rest =
+    absurd (other-word (rest_words (SourceReset at)) (rest_words (Last (Ended bt (ResetAt bu)))) refl rest)
 same-parts (SourceReset at) (Last (Broken bc bn)) wa wb first rest = absurd (no-word at (omega (arith, wa)) first)
-same-parts (Last (Ended at StillOpen)) (Event (Piece bn bt)) wa wb first rest = absurd (other-word (rest_words (Last (Ended at StillOpen))) (rest_words (Event (Piece bn bt))) refl rest)
-same-parts (Last (Ended at StillOpen)) (Event (SourceEnd bt)) wa wb first rest = absurd (other-word (rest_words (Last (Ended at StillOpen))) (rest_words (Event (SourceEnd bt))) refl rest)
-same-parts (Last (Ended at StillOpen)) (Event (Wrote other_slice bt)) wa wb first rest = absurd (other-word (rest_words (Last (Ended at StillOpen))) (rest_words (Event (Wrote other_slice bt))) refl rest)
-same-parts (Last (Ended at StillOpen)) (SourceReset bt) wa wb first rest = absurd (other-word (rest_words (Last (Ended at StillOpen))) (rest_words (SourceReset bt)) refl rest)
+same-parts (Last (Ended at StillOpen)) (Event (Piece bn bt)) wa wb first rest =
+    absurd (other-word (rest_words (Last (Ended at StillOpen))) (rest_words (Event (Piece bn bt))) refl rest)
+same-parts (Last (Ended at StillOpen)) (Event (SourceEnd bt)) wa wb first rest =
+    absurd (other-word (rest_words (Last (Ended at StillOpen))) (rest_words (Event (SourceEnd bt))) refl rest)
+same-parts (Last (Ended at StillOpen)) (Event (Wrote other_slice bt)) wa wb first rest =
+    absurd (other-word (rest_words (Last (Ended at StillOpen))) (rest_words (Event (Wrote other_slice bt))) refl rest)
+same-parts (Last (Ended at StillOpen)) (SourceReset bt) wa wb first rest =
+    absurd (other-word (rest_words (Last (Ended at StillOpen))) (rest_words (SourceReset bt)) refl rest)
 same-parts (Last (Ended at StillOpen)) (Last (Ended bt StillOpen)) wa wb first rest =
     let t : at ≡ bt = same-instant at bt wa.0 wb.0 first in cc
-same-parts (Last (Ended at StillOpen)) (Last (Ended bt (ClosedAt bu))) wa wb first rest = absurd (other-word (rest_words (Last (Ended at StillOpen))) (rest_words (Last (Ended bt (ClosedAt bu)))) refl rest)
-same-parts (Last (Ended at StillOpen)) (Last (Ended bt (ResetAt bu))) wa wb first rest = absurd (other-word (rest_words (Last (Ended at StillOpen))) (rest_words (Last (Ended bt (ResetAt bu)))) refl rest)
+same-parts (Last (Ended at StillOpen)) (Last (Ended bt (ClosedAt bu))) wa wb first rest =
+    absurd (other-word (rest_words (Last (Ended at StillOpen))) (rest_words (Last (Ended bt (ClosedAt bu)))) refl rest)
+same-parts (Last (Ended at StillOpen)) (Last (Ended bt (ResetAt bu))) wa wb first rest =
+    absurd (other-word (rest_words (Last (Ended at StillOpen))) (rest_words (Last (Ended bt (ResetAt bu)))) refl rest)
 same-parts (Last (Ended at StillOpen)) (Last (Broken bc bn)) wa wb first rest = absurd (no-word at (omega (arith, wa.0)) first)
-same-parts (Last (Ended at (ClosedAt au))) (Event (Piece bn bt)) wa wb first rest = absurd (other-word (rest_words (Last (Ended at (ClosedAt au)))) (rest_words (Event (Piece bn bt))) refl rest)
-same-parts (Last (Ended at (ClosedAt au))) (Event (SourceEnd bt)) wa wb first rest = absurd (other-word (rest_words (Last (Ended at (ClosedAt au)))) (rest_words (Event (SourceEnd bt))) refl rest)
-same-parts (Last (Ended at (ClosedAt au))) (Event (Wrote other_slice bt)) wa wb first rest = absurd (other-word (rest_words (Last (Ended at (ClosedAt au)))) (rest_words (Event (Wrote other_slice bt))) refl rest)
-same-parts (Last (Ended at (ClosedAt au))) (SourceReset bt) wa wb first rest = absurd (other-word (rest_words (Last (Ended at (ClosedAt au)))) (rest_words (SourceReset bt)) refl rest)
-same-parts (Last (Ended at (ClosedAt au))) (Last (Ended bt StillOpen)) wa wb first rest = absurd (other-word (rest_words (Last (Ended at (ClosedAt au)))) (rest_words (Last (Ended bt StillOpen))) refl rest)
+same-parts (Last (Ended at (ClosedAt au))) (Event (Piece bn bt)) wa wb first rest =
+    absurd (other-word (rest_words (Last (Ended at (ClosedAt au)))) (rest_words (Event (Piece bn bt))) refl rest)
+same-parts (Last (Ended at (ClosedAt au))) (Event (SourceEnd bt)) wa wb first rest =
+    absurd (other-word (rest_words (Last (Ended at (ClosedAt au)))) (rest_words (Event (SourceEnd bt))) refl rest)
+same-parts (Last (Ended at (ClosedAt au))) (Event (Wrote other_slice bt)) wa wb first rest =
+    absurd (other-word (rest_words (Last (Ended at (ClosedAt au)))) (rest_words (Event (Wrote other_slice bt))) refl rest)
+same-parts (Last (Ended at (ClosedAt au))) (SourceReset bt) wa wb first rest =
+    absurd (other-word (rest_words (Last (Ended at (ClosedAt au)))) (rest_words (SourceReset bt)) refl rest)
+same-parts (Last (Ended at (ClosedAt au))) (Last (Ended bt StillOpen)) wa wb first rest =
+    absurd (other-word (rest_words (Last (Ended at (ClosedAt au)))) (rest_words (Last (Ended bt StillOpen))) refl rest)
 same-parts (Last (Ended at (ClosedAt au))) (Last (Ended bt (ClosedAt bu))) wa wb first rest =
     let t : at ≡ bt = same-instant at bt wa.0 wb.0 first in
     let digits : decimal au ≡ decimal bu = cc in
     let u : au ≡ bu = same-instant au bu wa.1 wb.1 digits in cc
-same-parts (Last (Ended at (ClosedAt au))) (Last (Ended bt (ResetAt bu))) wa wb first rest = absurd (other-word (rest_words (Last (Ended at (ClosedAt au)))) (rest_words (Last (Ended bt (ResetAt bu)))) refl rest)
+same-parts (Last (Ended at (ClosedAt au))) (Last (Ended bt (ResetAt bu))) wa wb first rest =
+    absurd (other-word (rest_words (Last (Ended at (ClosedAt au)))) (rest_words (Last (Ended bt (ResetAt bu)))) refl rest)
 same-parts (Last (Ended at (ClosedAt au))) (Last (Broken bc bn)) wa wb first rest = absurd (no-word at (omega (arith, wa.0)) first)
-same-parts (Last (Ended at (ResetAt au))) (Event (Piece bn bt)) wa wb first rest = absurd (other-word (rest_words (Last (Ended at (ResetAt au)))) (rest_words (Event (Piece bn bt))) refl rest)
-same-parts (Last (Ended at (ResetAt au))) (Event (SourceEnd bt)) wa wb first rest = absurd (other-word (rest_words (Last (Ended at (ResetAt au)))) (rest_words (Event (SourceEnd bt))) refl rest)
-same-parts (Last (Ended at (ResetAt au))) (Event (Wrote other_slice bt)) wa wb first rest = absurd (other-word (rest_words (Last (Ended at (ResetAt au)))) (rest_words (Event (Wrote other_slice bt))) refl rest)
-same-parts (Last (Ended at (ResetAt au))) (SourceReset bt) wa wb first rest = absurd (other-word (rest_words (Last (Ended at (ResetAt au)))) (rest_words (SourceReset bt)) refl rest)
-same-parts (Last (Ended at (ResetAt au))) (Last (Ended bt StillOpen)) wa wb first rest = absurd (other-word (rest_words (Last (Ended at (ResetAt au)))) (rest_words (Last (Ended bt StillOpen))) refl rest)
-same-parts (Last (Ended at (ResetAt au))) (Last (Ended bt (ClosedAt bu))) wa wb first rest = absurd (other-word (rest_words (Last (Ended at (ResetAt au)))) (rest_words (Last (Ended bt (ClosedAt bu)))) refl rest)
+same-parts (Last (Ended at (ResetAt au))) (Event (Piece bn bt)) wa wb first rest =
+    absurd (other-word (rest_words (Last (Ended at (ResetAt au)))) (rest_words (Event (Piece bn bt))) refl rest)
+same-parts (Last (Ended at (ResetAt au))) (Event (SourceEnd bt)) wa wb first rest =
+    absurd (other-word (rest_words (Last (Ended at (ResetAt au)))) (rest_words (Event (SourceEnd bt))) refl rest)
+same-parts (Last (Ended at (ResetAt au))) (Event (Wrote other_slice bt)) wa wb first rest =
+    absurd (other-word (rest_words (Last (Ended at (ResetAt au)))) (rest_words (Event (Wrote other_slice bt))) refl rest)
+same-parts (Last (Ended at (ResetAt au))) (SourceReset bt) wa wb first rest =
+    absurd (other-word (rest_words (Last (Ended at (ResetAt au)))) (rest_words (SourceReset bt)) refl rest)
+same-parts (Last (Ended at (ResetAt au))) (Last (Ended bt StillOpen)) wa wb first rest =
+    absurd (other-word (rest_words (Last (Ended at (ResetAt au)))) (rest_words (Last (Ended bt StillOpen))) refl rest)
+same-parts (Last (Ended at (ResetAt au))) (Last (Ended bt (ClosedAt bu))) wa wb first rest =
+    absurd (other-word (rest_words (Last (Ended at (ResetAt au)))) (rest_words (Last (Ended bt (ClosedAt bu)))) refl rest)
 same-parts (Last (Ended at (ResetAt au))) (Last (Ended bt (ResetAt bu))) wa wb first rest =
     let t : at ≡ bt = same-instant at bt wa.0 wb.0 first in
     let digits : decimal au ≡ decimal bu = cc in

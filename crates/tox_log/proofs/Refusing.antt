@@ -1,5 +1,6 @@
 -- What a faithful log says next is what its judge expects.
-use Rattle.std.proofs.Common.{◌≡◌, ℕ, ◌+◌, ◌<◌, ◌≤◌, Bool, true, List, [], ◌∷◌, ◌++◌, length, replicate, zero, suc, Some, IsSome, slice_get, rules, refl, ap, sym, ◌∙◌, subst, append_assoc, append-nil, arith}
+use Rattle.std.proofs.Common.{◌≡◌, ℕ, ◌+◌, ◌<◌, ◌≤◌, Bool, true, List, [], ◌∷◌, ◌++◌, length, replicate, zero, suc, Some, IsSome, slice_get, rules, refl, ap}
+use Rattle.std.proofs.Common.{sym, ◌∙◌, subst, append_assoc, append-nil, arith}
 use Rattle.std.proofs.Math.Seq.{take-length}
 use Rattle.std.proofs.lemmas.List.Elements.{All-cons, All-nil}
 use Rattle.std.proofs.lemmas.List.{append_cancel_left, replicate-append-replicate}
@@ -28,7 +29,8 @@ gapless-last start [] slice middle stop before all = (all.0 ∙ before, omega (a
 gapless-last start (first ∷ slices) slice middle stop before all = gapless-last first.span.stop slices slice middle stop before.2 all.2
 
 -- a slice that was written last is due
-last-due : (reported : ℕ → Type 0) (since : ℕ) (log : List LinkEvent) (slice : Slice) (reading : ℕ) → IsTimely reported since (log ++ Wrote slice reading ∷ []) → slice.instant ≤ reading
+last-due : (reported : ℕ → Type 0) (since : ℕ) (log : List LinkEvent) (slice : Slice) (reading : ℕ) → IsTimely reported since (log ++ Wrote slice reading ∷ [])
+    → slice.instant ≤ reading
 last-due reported since [] slice reading timely = timely.2
 last-due reported since (Piece len t ∷ log) slice reading timely = last-due reported t log slice reading timely.3
 last-due reported since (SourceEnd t ∷ log) slice reading timely = last-due reported t log slice reading timely.3
@@ -51,7 +53,8 @@ pub record IsNext (judge : Judge) (slice : Slice) (reading : ℕ) : Type 0 where
   pub due : slice.instant ≤ reading
   pub expects : Expects judge (span_len slice.span) slice.instant
 
-pub faithful-next : (means : List Item → List Item) (reported : ℕ → Bool) (judge : Judge) (log : List LinkEvent) (slice : Slice) (reading : ℕ) → Judged means reported judge log
+pub faithful-next : (means : List Item → List Item) (reported : ℕ → Bool) (judge : Judge) (log : List LinkEvent) (slice : Slice) (reading : ℕ)
+    → Judged means reported judge log
     → IsFaithful means (λ t. reported t ≡ true) (log ++ Wrote slice reading ∷ []) → IsNext judge slice reading
 faithful-next means reported judge log slice reading judged faithful =
     let agrees : Agrees means (log ++ Wrote slice reading ∷ []) = agrees-whole means (λ t. reported t ≡ true) (log ++ Wrote slice reading ∷ []) faithful in
@@ -60,7 +63,8 @@ faithful-next means reported judge log slice reading judged faithful =
     let last = gapless-last 0 (said log) slice judge.said agrees.gapless.0 judged.gapless ends in
     let more : List ℕ = agrees.prefix.0 in
     let slices_are : slices_table (said (log ++ Wrote slice reading ∷ [])) ≡ slices_table (said log) ++ replicate (span_len slice.span) slice.instant
-    = ap slices_table said_is ∙ slices_table-append (said log) (slice ∷ []) ∙ ap (λ ts. slices_table (said log) ++ ts) (append-nil (replicate (span_len slice.span) slice.instant)) in
+    = ap slices_table said_is ∙ slices_table-append (said log) (slice ∷ [])
+    ∙ ap (λ ts. slices_table (said log) ++ ts) (append-nil (replicate (span_len slice.span) slice.instant)) in
     let whole : slices_table (said log) ++ (replicate (span_len slice.span) slice.instant ++ more) ≡ slices_table (said log) ++ next_table judge
     = sym (append_assoc (slices_table (said log)) (replicate (span_len slice.span) slice.instant) more)
     ∙ ap (λ ts. ts ++ more) (sym slices_are) ∙ agrees.prefix.1
@@ -103,9 +107,11 @@ rest-first judge part rest_is some =
     first-of (suc count) due more some = refl
 
 -- once some of them are said, the others are expected
-pub expects-rest : (old new : Judge) (count said_now left due : ℕ) → count ≡ said_now + left → next_table old ≡ replicate said_now due ++ next_table new → Expects old count due → Expects new left due
+pub expects-rest : (old new : Judge) (count said_now left due : ℕ) → count ≡ said_now + left → next_table old ≡ replicate said_now due ++ next_table new
+    → Expects old count due → Expects new left due
 expects-rest old new count said_now left due counts next expects =
     let more : List ℕ = expects.0 in
     let parts : replicate count due ++ more ≡ replicate said_now due ++ (replicate left due ++ more)
-    = ap (λ n. replicate n due ++ more) counts ∙ ap (λ ts. ts ++ more) (sym (replicate-append-replicate said_now left due)) ∙ append_assoc (replicate said_now due) (replicate left due) more in
+    = ap (λ n. replicate n due ++ more) counts ∙ ap (λ ts. ts ++ more) (sym (replicate-append-replicate said_now left due))
+    ∙ append_assoc (replicate said_now due) (replicate left due) more in
     (more, append_cancel_left (replicate said_now due) (replicate left due ++ more) (next_table new) (sym parts ∙ expects.1 ∙ next))

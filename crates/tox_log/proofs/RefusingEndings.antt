@@ -1,5 +1,6 @@
 -- What a link reports at its end is what its judge knows.
-use Rattle.std.proofs.Common.{◌≡◌, ℕ, ◌<◌, Bool, true, false, List, [], ◌∷◌, ◌++◌, replicate, zero, suc, Option, None, Some, refl, ap, sym, ◌∙◌, subst, append-nil, arith}
+use Rattle.std.proofs.Common.{◌≡◌, ℕ, ◌<◌, Bool, true, false, List, [], ◌∷◌, ◌++◌, replicate, zero, suc, Option, None, Some, refl, ap, sym, ◌∙◌, subst}
+use Rattle.std.proofs.Common.{append-nil, arith}
 use Rattle.std.specs.Prelude.{nat_le, if◌then◌else◌}
 use Rattle.std.proofs.lemmas.List.{append_cancel_left}
 use Rattle.tox_time.specs.Time.{IsInstant}
@@ -61,11 +62,14 @@ open-reached now (ResetAt t) open_yet reached = absurd (omega (arith, open_yet, 
 pub report-whole : (means : List Item → List Item) (reported : ℕ → Bool) (judge : Judge) (log : List LinkEvent) → Judged means reported judge log
     → slices_table (said log) ≡ table (means (heard log)) → next_table judge ≡ []
 report-whole means reported judge log judged whole =
-    append_cancel_left (slices_table (said log)) (next_table judge) [] (sym (judged.tables (Quiet ∷ []) refl) ∙ sym whole ∙ sym (append-nil (slices_table (said log))))
+    append_cancel_left (slices_table (said log)) (next_table judge) [] (sym (judged.tables (Quiet ∷ []) refl) ∙ sym whole
+    ∙ sym (append-nil (slices_table (said log))))
 
 -- a judge that asked at a reading at which a link reports this ending
-module _ (means : List Item → List Item) (reported : ℕ → Bool) (old new : Judge) (log : List LinkEvent) (taken written : ℕ) (last : Ending) (source : Option ReadEnd) (reading : ℕ) (fits : IsInstant reading)
-    (stays : Stays old new) (latest_is : new.latest ≡ reading) (judged : Judged means reported old log) (report : ReportsAt means (λ t. reported t ≡ true) log taken written last source reading) where
+module _ (means : List Item → List Item) (reported : ℕ → Bool) (old new : Judge) (log : List LinkEvent) (taken written : ℕ) (last : Ending)
+    (source : Option ReadEnd) (reading : ℕ) (fits : IsInstant reading)
+    (stays : Stays old new) (latest_is : new.latest ≡ reading) (judged : Judged means reported old log)
+    (report : ReportsAt means (λ t. reported t ≡ true) log taken written last source reading) where
   after : FollowsWith means reported new [] old.said log
   after = stays means reported [] old.said log judged
 
@@ -73,7 +77,8 @@ module _ (means : List Item → List Item) (reported : ℕ → Bool) (old new : 
   quiet-end = sym (after.endings (Quiet ∷ []) refl) ∙ report.ends
 
   closed-end : ending (remaining_output new.core (Closed reading ∷ [])) ≡ last
-  closed-end = sym (after.endings (Closed reading ∷ []) (omega (arith, latest_is), fits, refl)) ∙ (report.settled (Closed reading ∷ []) (omega arith, fits, refl)).endings ∙ report.ends
+  closed-end = sym (after.endings (Closed reading ∷ []) (omega (arith, latest_is), fits, refl))
+      ∙ (report.settled (Closed reading ∷ []) (omega arith, fits, refl)).endings ∙ report.ends
 
   -- tells of an open link, if its core hasn't ended
   pub report-open : (ops : List Op) → IsUnended ops (remaining_output new.core) reading → last ≡ StillOpen

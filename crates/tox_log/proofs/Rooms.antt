@@ -16,13 +16,15 @@ pub record IsNowShallow (means : List Item → List Item) (judge : Judge) (lines
   pub room : IsShallowBehind events (events_in lines)
 
 -- the first of the lines alone
-pub shallow-first : (events : List LinkEvent) (line : LogLine) (lines : List LogLine) → IsShallowBehind events (events_in (line ∷ lines)) → IsShallowBehind events (events_in (line ∷ []))
+pub shallow-first : (events : List LinkEvent) (line : LogLine) (lines : List LogLine) → IsShallowBehind events (events_in (line ∷ lines))
+    → IsShallowBehind events (events_in (line ∷ []))
 shallow-first events (Event event) lines room = (room.0, tt)
 shallow-first events (SourceReset instant) lines room = (room.0, tt)
 shallow-first events (Last last) lines room = tt
 
 -- and the others behind it
-shallow-others : (events : List LinkEvent) (line : LogLine) (lines : List LogLine) → IsShallowBehind events (events_in (line ∷ lines)) → IsShallowBehind (events ++ events_in (line ∷ [])) (events_in lines)
+shallow-others : (events : List LinkEvent) (line : LogLine) (lines : List LogLine) → IsShallowBehind events (events_in (line ∷ lines))
+    → IsShallowBehind (events ++ events_in (line ∷ [])) (events_in lines)
 shallow-others events (Event event) lines room = room.1
 shallow-others events (SourceReset instant) lines room = room.1
 shallow-others events (Last last) lines room = subst (λ events. IsShallowBehind events (events_in lines)) (sym (append-nil events)) room

@@ -1,5 +1,6 @@
 -- The bytes of a printed short form: neither a space nor a control character, and ASCII.
-use Rattle.std.proofs.Common.{zero, suc, ◌≡◌, ℕ, ◌^◌, ◌<◌, ◌≤◌, Bool, true, false, cond, filter, List, [], ◌∷◌, ◌++◌, length, get_or, codes, decimal, map, IsUtf8, refl, ◌∙◌, arith}
+use Rattle.std.proofs.Common.{zero, suc, ◌≡◌, ℕ, ◌^◌, ◌<◌, ◌≤◌, Bool, true, false, cond, filter, List, [], ◌∷◌, ◌++◌, length, get_or, codes, decimal, map}
+use Rattle.std.proofs.Common.{IsUtf8, refl, ◌∙◌, arith}
 use Rattle.std.specs.Prelude.{◌≢◌, ◌&&◌, nat_lt}
 use Rattle.std.specs.Char.{is_ascii_digit}
 use Rattle.std.specs.List.{join_with_byte, list_all}
@@ -55,7 +56,8 @@ pair-signs entry word small =
     let value = digit-signs (decimal entry.1) (digits_decimal ascii_digits entry.1 (omega (arith, small))) in
     both-signs (entry.0 ++ codes "=") (decimal entry.1) (both-signs entry.0 (codes "=") (word-signs entry.0 (word-bytes entry.0 word)) refl) value
 
-shown-signs : (entries : List Named) → list_all (λ entry. is_word entry.0) entries ≡ true → AreShort entries → list_all are_signs (map printed_pair (filter is_shown entries)) ≡ true
+shown-signs : (entries : List Named) → list_all (λ entry. is_word entry.0) entries ≡ true → AreShort entries
+    → list_all are_signs (map printed_pair (filter is_shown entries)) ≡ true
 shown-signs [] words short = refl
 shown-signs (entry ∷ entries) words short =
     let parts = and_parts (is_word entry.0) (list_all (λ e. is_word e.0) entries) words in
@@ -79,8 +81,12 @@ short-signs toxic toxicity inside most =
     let shown = map printed_pair (filter is_shown (entries_of toxic)) in
     let last : Named = (codes "toxicity", toxicity) in
     let pairs : list_all are_signs (printed_pairs toxic toxicity) ≡ true =
-    list_all-append are_signs shown (printed_pair last ∷ []) ∙ rw (shown-signs (entries_of toxic) facts.spelled.words (facts.short inside), pair-signs last refl (omega (arith, most))) refl in
-    both-signs (name_of toxic ++ codes ":") (join_with_byte 44 (printed_pairs toxic toxicity)) (both-signs (name_of toxic) (codes ":") (word-signs (name_of toxic) (word-bytes (name_of toxic) facts.spelled.word)) refl)
+    list_all-append are_signs shown (printed_pair last ∷ []) ∙ rw (
+      shown-signs (entries_of toxic) facts.spelled.words (facts.short inside),
+      pair-signs last refl (omega (arith, most)),
+    ) refl in
+    both-signs (name_of toxic ++ codes ":") (join_with_byte 44 (printed_pairs toxic toxicity))
+    (both-signs (name_of toxic) (codes ":") (word-signs (name_of toxic) (word-bytes (name_of toxic) facts.spelled.word)) refl)
     (join-signs (printed_pairs toxic toxicity) pairs)
 
 -- so it has no byte up to the space

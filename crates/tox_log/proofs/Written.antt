@@ -26,11 +26,14 @@ pub written-start : (lines : LineReader) (before : Option (List ℕ)) (log : Wri
     → to_take lines before ≡ Some (heading_lines log.name log.number log.stream log.chain.lanes log.seed ++ behind_heading log)
 written-start lines before log fresh written =
     ap (λ bytes. prepend_known bytes before) fresh ∙ sym (prepend-nil before) ∙ written.text
-    ∙ ap Some (append_assoc (heading_lines log.name log.number log.stream log.chain.lanes log.seed) (toxic_lines log.chain.entries log.names) (log_lines log.lines ++ log.torn))
+    ∙ ap Some (append_assoc (heading_lines log.name log.number log.stream log.chain.lanes log.seed) (toxic_lines log.chain.entries log.names)
+    (log_lines log.lines ++ log.torn))
 
 -- its toxics are left
-pub written-toxics : (start : OpenLog) (between : Option (List ℕ)) (log : WrittenLog) → IsWritableLog log → start.chain.entries ≡ [] → start.chain.lanes ≡ log.chain.lanes
-    → start.heard ≡ first_position → start.over ≡ false → to_take start.lines between ≡ Some (behind_heading log) → HasToxicsLeft start between log.chain.entries log.lines
+pub written-toxics : (start : OpenLog) (between : Option (List ℕ)) (log : WrittenLog) → IsWritableLog log → start.chain.entries ≡ []
+    → start.chain.lanes ≡ log.chain.lanes
+    → start.heard ≡ first_position → start.over ≡ false → to_take start.lines between ≡ Some (behind_heading log)
+    → HasToxicsLeft start between log.chain.entries log.lines
 written-toxics start between log writable none lanes begun going bytes =
     let toxics = zip log.chain.entries log.names in record {
       toxics = toxics;
@@ -48,8 +51,10 @@ abbrev chain-of : Lanes → List Entry → Toxics
 chain-of lanes entries = record { lanes = lanes; entries = entries }
 
 -- and then its lines
-pub written-opened : (start log : OpenLog) (remaining : Option (List ℕ)) (written : WrittenLog) (heading : Heading) → IsHeadingOf heading written → start.heading ≡ heading
-    → start.chain.lanes ≡ written.chain.lanes → SameHeading start log → ReadsChain log remaining written.chain.entries written.lines → OpensWritten log remaining written
+pub written-opened : (start log : OpenLog) (remaining : Option (List ℕ)) (written : WrittenLog) (heading : Heading) → IsHeadingOf heading written
+    → start.heading ≡ heading
+    → start.chain.lanes ≡ written.chain.lanes → SameHeading start log → ReadsChain log remaining written.chain.entries written.lines
+    → OpensWritten log remaining written
 written-opened start log remaining written heading is begun lanes same left = record {
   heading = subst (λ heading. IsHeadingOf heading written) (sym (same.0 ∙ begun)) is;
   chain = chains log.chain written.chain (same.2 ∙ lanes) left.chain;

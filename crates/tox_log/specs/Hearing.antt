@@ -82,7 +82,8 @@ HasNoEnding means text over hearing (Some cause) = (over ≡ true) × HasBroken 
 
 -- the text is the lines of events and a last line with this ending, and the link with these events reports so: it took and wrote so
 -- many bytes in so many writes, which were so late with its ending, and its source had ended then or not at all, by a reset or not
-pub record HasReport (means : List Item → List Item) (text : List ℕ) (taken written : ℕ) (source_end : Option ℕ) (reset : Bool) (writes : ℕ) (late : List ℕ) (ending : Ending) : Type 0 where
+pub record HasReport (means : List Item → List Item) (text : List ℕ) (taken written : ℕ) (source_end : Option ℕ) (reset : Bool) (writes : ℕ) (late : List ℕ)
+    (ending : Ending) : Type 0 where
   pub events : List LinkEvent
   pub reading : ℕ
   pub lines : text ≡ event_lines reset events ++ last_line (Ended reading ending)
@@ -162,7 +163,8 @@ pub record BeginsJudging (heading : Heading) (chain : Toxics) (hearing : Hearing
 pub record IsTextOf (given : Option (List ℕ)) (judged : JudgedLog) (lines : List ℕ) (means : List Item → List Item) : Type 0 where
   pub names : List (List ℕ)
   pub left : Option (List ℕ)
-  pub text : given ≡ prepend_known (header_text (string_bytes judged.heading.proxy) judged.heading.number judged.heading.stream judged.heading.seed judged.chain names ++ lines) left
+  pub text : given ≡ prepend_known (header_text (string_bytes judged.heading.proxy) judged.heading.number judged.heading.stream judged.heading.seed judged.chain
+      names ++ lines) left
   pub rest : LacksLine left
   pub meaning : IsMeaningOf means judged.chain (seeded_words judged.heading.seed judged.heading.number judged.heading.stream)
 
@@ -192,7 +194,8 @@ TellsNoEnding (Some cause) last = (bytes : ℕ) × (last ≡ last_line (Broken c
 
 -- the text is the lines of events that are faithful, and no last line or one that tells no settled ending; and these are the events'
 -- counts, and how late its writes were
-pub record HasStopped (means : List Item → List Item) (text : List ℕ) (broken : Option BreakCause) (taken written : ℕ) (source_end : Option ℕ) (reset : Bool) (writes : ℕ) (late : List ℕ) : Type 0 where
+pub record HasStopped (means : List Item → List Item) (text : List ℕ) (broken : Option BreakCause) (taken written : ℕ) (source_end : Option ℕ) (reset : Bool)
+    (writes : ℕ) (late : List ℕ) : Type 0 where
   pub events : List LinkEvent
   pub last : List ℕ
   pub lines : text ≡ event_lines reset events ++ last

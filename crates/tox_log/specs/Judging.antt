@@ -54,8 +54,10 @@ pub record KeepsUp (judge : Judge) : Type 0 where
 
 -- what was said up to a position, what the core gave since then, and what is to come are together what the plan means for what was
 -- heard and goes on from there; the log is faithful, and no reading of it is above the last one; the core keeps the last pieces heard
-pub record AddsUp (means : List Item → List Item) (reported : ℕ → Bool) (core : CoreView) (given : List ℕ) (heard latest : ℕ) (ended : Bool) (start : ℕ) (log : List LinkEvent) : Type 0 where
-  pub tables : (items : List Item) → IsStreamFrom heard latest items → table (means (heard_from 0 log items)) ≡ slices_table (said log) ++ (given ++ table (remaining_output core items))
+pub record AddsUp (means : List Item → List Item) (reported : ℕ → Bool) (core : CoreView) (given : List ℕ) (heard latest : ℕ) (ended : Bool) (start : ℕ)
+    (log : List LinkEvent) : Type 0 where
+  pub tables : (items : List Item) → IsStreamFrom heard latest items → table (means (heard_from 0 log items))
+      ≡ slices_table (said log) ++ (given ++ table (remaining_output core items))
   pub endings : (items : List Item) → IsStreamFrom heard latest items → ending (means (heard_from 0 log items)) ≡ ending (remaining_output core items)
   pub faithful : IsFaithful means (λ t. reported t ≡ true) log
   pub by : IsBy latest log
@@ -66,7 +68,8 @@ pub record AddsUp (means : List Item → List Item) (reported : ℕ → Bool) (c
 
 -- a judge after a log, and after these instants of a slice that starts at a position
 abbrev pub FollowsWith : (List Item → List Item) → (ℕ → Bool) → Judge → List ℕ → ℕ → List LinkEvent → Type 0
-FollowsWith means reported judge front start log = AddsUp means reported judge.core (front ++ rest_table judge.rest) judge.heard judge.latest judge.ended start log
+FollowsWith means reported judge front start log = AddsUp means reported judge.core (front ++ rest_table judge.rest) judge.heard judge.latest judge.ended start
+    log
 
 -- a judge after a log
 abbrev pub Judged : (List Item → List Item) → (ℕ → Bool) → Judge → List LinkEvent → Type 0
@@ -106,15 +109,18 @@ Refuses judge event = (means : List Item → List Item) (reported : ℕ → Bool
 
 -- all is said, and a link whose core knows no ending hasn't ended at a reading
 abbrev pub HasSaidAll : Judge → ℕ → Type 0
-HasSaidAll judge reading = (judge.rest ≡ None) × (core_ending judge.core ≡ None → IsUnended (ops_of judge.core.runner.cursors) (remaining_output judge.core) reading)
+HasSaidAll judge reading = (judge.rest ≡ None) × (core_ending judge.core ≡ None
+    → IsUnended (ops_of judge.core.runner.cursors) (remaining_output judge.core) reading)
 
 -- no link with this log reports this ending at a reading
 abbrev pub HasNoReport : (List Item → List Item) → (ℕ → Bool) → List LinkEvent → ℕ → Ending → Type 0
-HasNoReport means reported log reading last = (taken written : ℕ) (source : Option ReadEnd) → ReportsAt means (λ t. reported t ≡ true) log taken written last source reading → ⊥
+HasNoReport means reported log reading last = (taken written : ℕ) (source : Option ReadEnd)
+    → ReportsAt means (λ t. reported t ≡ true) log taken written last source reading → ⊥
 
 -- no link with the log of a judge reports this ending at a reading
 abbrev pub RefusesEnding : Judge → ℕ → Ending → Type 0
-RefusesEnding judge reading last = (means : List Item → List Item) (reported : ℕ → Bool) (log : List LinkEvent) → Judged means reported judge log → HasNoReport means reported log reading last
+RefusesEnding judge reading last = (means : List Item → List Item) (reported : ℕ → Bool) (log : List LinkEvent) → Judged means reported judge log
+    → HasNoReport means reported log reading last
 
 -- how the source ended, if its end was heard
 abbrev pub source_heard : Bool → Option ReadEnd

@@ -36,4 +36,5 @@ pub record AreLinkLines (means : List Item → List Item) (reported : ℕ → Bo
 -- whatever means what the chain does with the words of the link's stream, the lines are a link's under it
 pub record IsLinkLog (log : WrittenLog) : Type 0 where
   pub reported : ℕ → Bool
-  pub lines : (means : List Item → List Item) → IsMeaningOf means log.chain (seeded_words log.seed log.number log.stream) → AreLinkLines means reported log.lines
+  pub lines : (means : List Item → List Item) → IsMeaningOf means log.chain (seeded_words log.seed log.number log.stream)
+      → AreLinkLines means reported log.lines

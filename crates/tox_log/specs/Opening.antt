@@ -39,7 +39,8 @@ pub record ReadsToxics (old new : OpenLog) (before after : Option (List ℕ)) : 
 pub record Opens (before after : Option (List ℕ)) (log : OpenLog) : Type 0 where
   pub names : List (List ℕ)
   pub torn : List ℕ
-  pub given : before ≡ prepend_known (header_text (string_bytes log.heading.proxy) log.heading.number log.heading.stream log.heading.seed log.chain names ++ torn) (to_hand log after)
+  pub given : before ≡ prepend_known (header_text (string_bytes log.heading.proxy) log.heading.number log.heading.stream log.heading.seed log.chain names
+      ++ torn) (to_hand log after)
   pub rest : (torn ≡ []) ⊎ IsAtEnd (to_hand log after)
   pub unended : Lacks 10 torn
   pub going : log.over ≡ false

@@ -17,7 +17,8 @@ went_on f None y h = absurd (none-some y h)
 went_on f (Some x) y h = (x, refl, h)
 
 -- what each move keeps holds at the end of a run
-pub run_keeps : (cap : ℕ) (P : NetworkState → Type 0) → ((n t : NetworkState) (move : Move) → after cap n move ≡ Some t → P n → P t) → (n t : NetworkState) (moves : List Move) → P n → IsRun cap n moves t → P t
+pub run_keeps : (cap : ℕ) (P : NetworkState → Type 0) → ((n t : NetworkState) (move : Move) → after cap n move ≡ Some t → P n → P t)
+    → (n t : NetworkState) (moves : List Move) → P n → IsRun cap n moves t → P t
 run_keeps cap P step n t [] p h = subst P (same_Some _ _ h) p
 run_keeps cap P step n t (move ∷ moves) p h =
     let m = went_on (after_all cap moves) (after cap n move) t h in
@@ -46,7 +47,8 @@ run_moves cap n t (move ∷ moves) shaped h =
     omega arith
 
 -- what will be given to a queue is what the run gives to it, and what will be given to it after that
-pub run_sent : (cap : ℕ) (n t : NetworkState) (moves : List Move) → IsShaped n → IsRun cap n moves t → (k : ℕ) → k ≤ length n.stages → to_enter n k ≡ sent_in cap moves n k ++ to_enter t k
+pub run_sent : (cap : ℕ) (n t : NetworkState) (moves : List Move) → IsShaped n → IsRun cap n moves t → (k : ℕ) → k ≤ length n.stages
+    → to_enter n k ≡ sent_in cap moves n k ++ to_enter t k
 run_sent cap n t [] shaped h k l = ap (λ u. to_enter u k) (same_Some _ _ h)
 run_sent cap n t (move ∷ moves) shaped h k l =
     let m = went_on (after_all cap moves) (after cap n move) t h in
@@ -57,7 +59,8 @@ run_sent cap n t (move ∷ moves) shaped h k l =
     ∙ ap (λ o. (entering n move k ++ option_map_or (λ u. sent_in cap moves u k) o []) ++ to_enter t k) (sym m.1)
 
 -- what is to come to a queue is what leaves it in the run, and what is to come to it after that
-pub run_given : (cap : ℕ) (n t : NetworkState) (moves : List Move) → IsShaped n → IsRun cap n moves t → (k : ℕ) → k ≤ length n.stages → coming n k ≡ given_in cap moves n k ++ coming t k
+pub run_given : (cap : ℕ) (n t : NetworkState) (moves : List Move) → IsShaped n → IsRun cap n moves t → (k : ℕ) → k ≤ length n.stages
+    → coming n k ≡ given_in cap moves n k ++ coming t k
 run_given cap n t [] shaped h k l = ap (λ u. coming u k) (same_Some _ _ h)
 run_given cap n t (move ∷ moves) shaped h k l =
     let m = went_on (after_all cap moves) (after cap n move) t h in

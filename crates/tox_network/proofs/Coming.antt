@@ -1,5 +1,6 @@
 -- How each move changes what is to come to each queue.
-use Rattle.std.proofs.Common.{ℕ, zero, suc, ◌+◌, ◌<◌, ◌≤◌, ◌≡◌, ◌≢◌, List, [], ◌∷◌, ◌++◌, Some, length, sym, ◌∙◌, ap, subst, arith, append_assoc, ⊎_elim, get_or-set_same, get_or-set_other}
+use Rattle.std.proofs.Common.{ℕ, zero, suc, ◌+◌, ◌<◌, ◌≤◌, ◌≡◌, ◌≢◌, List, [], ◌∷◌, ◌++◌, Some, length, sym, ◌∙◌, ap, subst, arith, append_assoc, ⊎_elim}
+use Rattle.std.proofs.Common.{get_or-set_same, get_or-set_other}
 use Rattle.std.specs.List.{slice_get}
 use Rattle.std.proofs.lemmas.Bool.{cases_lt}
 use Rattle.std.proofs.lemmas.Option.{slice_get_within}
@@ -16,7 +17,8 @@ abbrev pub IsShaped : NetworkState → Type 0
 IsShaped n = length n.queues ≡ length n.stages + 1
 
 -- the same up to queue k
-pub coming_same : (n t : NetworkState) (k : ℕ) → n.arrivals ≡ t.arrivals → ((j : ℕ) → j ≤ k → queue n j ≡ queue t j) → ((j : ℕ) → j < k → slice_get n.stages j ≡ slice_get t.stages j) → coming n k ≡ coming t k
+pub coming_same : (n t : NetworkState) (k : ℕ) → n.arrivals ≡ t.arrivals → ((j : ℕ) → j ≤ k → queue n j ≡ queue t j)
+    → ((j : ℕ) → j < k → slice_get n.stages j ≡ slice_get t.stages j) → coming n k ≡ coming t k
 coming_same n t zero a q s = ap (λ items. items ++ n.arrivals) (q 0 (omega arith)) ∙ ap (λ items. queue t 0 ++ items) a
 coming_same n t (suc k) a q s =
     let before : coming n k ≡ coming t k = coming_same n t k a (λ j h. q j (omega arith)) (λ j h. s j (omega arith)) in
@@ -25,7 +27,8 @@ coming_same n t (suc k) a q s =
     ∙ ap (λ items. queue t (k + 1) ++ to_give (slice_get t.stages k) items) before
 
 -- the same from queue i on
-pub coming_from : (n t : NetworkState) (i k : ℕ) → i ≤ k → coming n i ≡ coming t i → ((j : ℕ) → i < j → queue n j ≡ queue t j) → ((j : ℕ) → i ≤ j → slice_get n.stages j ≡ slice_get t.stages j) → coming n k ≡ coming t k
+pub coming_from : (n t : NetworkState) (i k : ℕ) → i ≤ k → coming n i ≡ coming t i → ((j : ℕ) → i < j → queue n j ≡ queue t j)
+    → ((j : ℕ) → i ≤ j → slice_get n.stages j ≡ slice_get t.stages j) → coming n k ≡ coming t k
 coming_from n t i zero h c q s = let e : i ≡ 0 = omega arith in subst (λ j. coming n j ≡ coming t j) e c
 coming_from n t i (suc k) h c q s =
     ⊎_elim
@@ -37,7 +40,8 @@ coming_from n t i (suc k) h c q s =
     (cases_lt k i)
 
 -- queue k has one item less, and all before it is the same
-pub coming_less : (n t : NetworkState) (k : ℕ) (item : Item) → n.arrivals ≡ t.arrivals → queue n k ≡ item ∷ queue t k → ((j : ℕ) → j < k → queue n j ≡ queue t j) → ((j : ℕ) → j < k → slice_get n.stages j ≡ slice_get t.stages j) → coming n k ≡ item ∷ coming t k
+pub coming_less : (n t : NetworkState) (k : ℕ) (item : Item) → n.arrivals ≡ t.arrivals → queue n k ≡ item ∷ queue t k
+    → ((j : ℕ) → j < k → queue n j ≡ queue t j) → ((j : ℕ) → j < k → slice_get n.stages j ≡ slice_get t.stages j) → coming n k ≡ item ∷ coming t k
 coming_less n t zero item a e q s = ap (λ items. items ++ n.arrivals) e ∙ ap (λ items. item ∷ (queue t 0 ++ items)) a
 coming_less n t (suc k) item a e q s =
     let here : queue n (k + 1) ≡ item ∷ queue t (k + 1) = subst (λ j. queue n j ≡ item ∷ queue t j) (omega arith) e in
@@ -76,7 +80,8 @@ pub taken_stage : (n : NetworkState) (k : ℕ) (t : NetworkState) → Takes n k 
 taken_stage n k t m j ne = sym (ap (λ u. slice_get u.stages j) m.left ∙ slice_get-set_other n.stages k j (reacted m.stage m.item) ne)
 
 pub taken_stage_at : (n : NetworkState) (k : ℕ) (t : NetworkState) → (m : Takes n k t) → slice_get t.stages k ≡ Some (reacted m.stage m.item)
-taken_stage_at n k t m = ap (λ u. slice_get u.stages k) m.left ∙ slice_get-set_same n.stages k (reacted m.stage m.item) (slice_get_within n.stages k m.stage m.at)
+taken_stage_at n k t m = ap (λ u. slice_get u.stages k) m.left ∙ slice_get-set_same n.stages k (reacted m.stage m.item)
+    (slice_get_within n.stages k m.stage m.at)
 
 -- the taken item no longer comes
 pub taken_coming_at : (n : NetworkState) (k : ℕ) (t : NetworkState) → IsShaped n → (m : Takes n k t) → coming n k ≡ m.item ∷ coming t k
@@ -84,7 +89,8 @@ taken_coming_at n k t shaped m = coming_less n t k m.item (taken_arrivals n k t 
     (λ j h. taken_queue n k t m j (omega arith)) (λ j h. taken_stage n k t m j (omega arith))
 
 -- and what the stage gives for it is unsent
-pub taken_given : (n : NetworkState) (k : ℕ) (t : NetworkState) → IsShaped n → (m : Takes n k t) → to_give (slice_get n.stages k) (coming n k) ≡ to_give (slice_get t.stages k) (coming t k)
+pub taken_given : (n : NetworkState) (k : ℕ) (t : NetworkState) → IsShaped n → (m : Takes n k t)
+    → to_give (slice_get n.stages k) (coming n k) ≡ to_give (slice_get t.stages k) (coming t k)
 taken_given n k t shaped m =
     let rest = coming t k in
     ap (λ stage. to_give stage (coming n k)) m.at
@@ -116,14 +122,18 @@ put_last cap n k t shaped m =
 pub put_stage : (cap : ℕ) (n : NetworkState) (k : ℕ) (t : NetworkState) → Puts cap n k t → (j : ℕ) → j ≢ k → slice_get n.stages j ≡ slice_get t.stages j
 put_stage cap n k t m j ne = sym (ap (λ u. slice_get u.stages j) m.left ∙ slice_get-set_other n.stages k j (record m.stage { unsent = m.rest }) ne)
 
-pub put_stage_at : (cap : ℕ) (n : NetworkState) (k : ℕ) (t : NetworkState) → (m : Puts cap n k t) → slice_get t.stages k ≡ Some (record m.stage { unsent = m.rest })
-put_stage_at cap n k t m = ap (λ u. slice_get u.stages k) m.left ∙ slice_get-set_same n.stages k (record m.stage { unsent = m.rest }) (slice_get_within n.stages k m.stage m.at)
+pub put_stage_at : (cap : ℕ) (n : NetworkState) (k : ℕ) (t : NetworkState) → (m : Puts cap n k t)
+    → slice_get t.stages k ≡ Some (record m.stage { unsent = m.rest })
+put_stage_at cap n k t m = ap (λ u. slice_get u.stages k) m.left ∙ slice_get-set_same n.stages k (record m.stage { unsent = m.rest })
+    (slice_get_within n.stages k m.stage m.at)
 
 pub put_same : (cap : ℕ) (n : NetworkState) (k : ℕ) (t : NetworkState) → Puts cap n k t → (j : ℕ) → j ≤ k → coming n j ≡ coming t j
-put_same cap n k t m j l = coming_same n t j (sym (ap (λ u. u.arrivals) m.left)) (λ i h. put_queue cap n k t m i (omega arith)) (λ i h. put_stage cap n k t m i (omega arith))
+put_same cap n k t m j l = coming_same n t j (sym (ap (λ u. u.arrivals) m.left)) (λ i h. put_queue cap n k t m i (omega arith))
+    (λ i h. put_stage cap n k t m i (omega arith))
 
 -- the item is no longer to be given
-pub put_given : (cap : ℕ) (n : NetworkState) (k : ℕ) (t : NetworkState) → (m : Puts cap n k t) → to_give (slice_get n.stages k) (coming n k) ≡ m.item ∷ to_give (slice_get t.stages k) (coming t k)
+pub put_given : (cap : ℕ) (n : NetworkState) (k : ℕ) (t : NetworkState) → (m : Puts cap n k t)
+    → to_give (slice_get n.stages k) (coming n k) ≡ m.item ∷ to_give (slice_get t.stages k) (coming t k)
 put_given cap n k t m =
     ap (λ stage. to_give stage (coming n k)) m.at
     ∙ ap (λ items. m.stage.unsent ++ flow_from m.stage.reaction m.stage.state items) (put_same cap n k t m k (omega arith))
@@ -165,13 +175,16 @@ pub delivered_stages : (n t : NetworkState) → Delivers n t → n.stages ≡ t.
 delivered_stages n t m = sym (ap (λ u. u.stages) m.left)
 
 pub delivered_queue : (n t : NetworkState) → Delivers n t → (j : ℕ) → j < length n.stages → queue n j ≡ queue t j
-delivered_queue n t m j l = let ne : j ≢ length n.stages = omega arith in sym (ap (λ u. queue u j) m.left ∙ get_or-set_other n.queues (length n.stages) j m.rest [] ne)
+delivered_queue n t m j l = let ne : j ≢ length n.stages = omega arith in
+    sym (ap (λ u. queue u j) m.left ∙ get_or-set_other n.queues (length n.stages) j m.rest [] ne)
 
 pub delivered_coming : (n t : NetworkState) → (m : Delivers n t) → (j : ℕ) → j < length n.stages → coming n j ≡ coming t j
-delivered_coming n t m j l = coming_same n t j (sym (ap (λ u. u.arrivals) m.left)) (λ i h. delivered_queue n t m i (omega arith)) (λ i h. ap (λ stages. slice_get stages i) (delivered_stages n t m))
+delivered_coming n t m j l = coming_same n t j (sym (ap (λ u. u.arrivals) m.left)) (λ i h. delivered_queue n t m i (omega arith))
+    (λ i h. ap (λ stages. slice_get stages i) (delivered_stages n t m))
 
 pub delivered_coming_last : (n t : NetworkState) → IsShaped n → (m : Delivers n t) → coming n (length n.stages) ≡ m.item ∷ coming t (length n.stages)
 delivered_coming_last n t shaped m =
-    let q : queue t (length n.stages) ≡ m.rest = ap (λ u. queue u (length n.stages)) m.left ∙ get_or-set_same n.queues (length n.stages) m.rest [] (omega arith) in
+    let q : queue t (length n.stages) ≡ m.rest = ap (λ u. queue u (length n.stages)) m.left
+    ∙ get_or-set_same n.queues (length n.stages) m.rest [] (omega arith) in
     coming_less n t (length n.stages) m.item (sym (ap (λ u. u.arrivals) m.left)) (m.first ∙ ap (λ items. m.item ∷ items) (sym q))
     (λ j h. delivered_queue n t m j h) (λ j h. ap (λ stages. slice_get stages j) (delivered_stages n t m))

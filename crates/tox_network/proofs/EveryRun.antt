@@ -21,42 +21,51 @@ use Rattle.tox_network.proofs.Starting.{start_queue, start_stages, start_shaped,
 use Rattle.tox_network.proofs.Resting.{rest_empty, empty_eventual_delivery, empty_moves_left, empty_coming, empty_to_enter, comes_to_rest}
 
 -- the eventual delivery is the flow
-pub every_eventual_delivery : (cap : ℕ) (reactions : List Reaction) (arrivals : List Item) (moves : List Move) (n : NetworkState) → IsRun cap (start reactions arrivals) moves n → eventual_delivery n ≡ flow_through reactions arrivals
+pub every_eventual_delivery : (cap : ℕ) (reactions : List Reaction) (arrivals : List Item) (moves : List Move) (n : NetworkState)
+    → IsRun cap (start reactions arrivals) moves n → eventual_delivery n ≡ flow_through reactions arrivals
 every_eventual_delivery cap reactions arrivals moves n run =
     run_eventual_delivery cap (start reactions arrivals) n moves (start_shaped reactions arrivals) run ∙ start_eventual_delivery reactions arrivals
 
 -- what is delivered is a prefix of it
-pub every_prefix : (cap : ℕ) (reactions : List Reaction) (arrivals : List Item) (moves : List Move) (n : NetworkState) → IsRun cap (start reactions arrivals) moves n → IsPrefix n.delivered (flow_through reactions arrivals)
+pub every_prefix : (cap : ℕ) (reactions : List Reaction) (arrivals : List Item) (moves : List Move) (n : NetworkState)
+    → IsRun cap (start reactions arrivals) moves n → IsPrefix n.delivered (flow_through reactions arrivals)
 every_prefix cap reactions arrivals moves n run = (coming n (length n.stages), every_eventual_delivery cap reactions arrivals moves n run)
 
 -- at rest nothing waits
-pub every_rest_empty : (cap : ℕ) (reactions : List Reaction) (arrivals : List Item) (moves : List Move) (n : NetworkState) → 1 ≤ cap → IsRun cap (start reactions arrivals) moves n → IsAtRest cap n → IsEmpty n
+pub every_rest_empty : (cap : ℕ) (reactions : List Reaction) (arrivals : List Item) (moves : List Move) (n : NetworkState) → 1 ≤ cap
+    → IsRun cap (start reactions arrivals) moves n → IsAtRest cap n → IsEmpty n
 every_rest_empty cap reactions arrivals moves n room run rest =
     rest_empty cap n room (run_shape cap (start reactions arrivals) n moves (start_shaped reactions arrivals) run) rest
 
 -- at rest the whole flow is delivered
-pub every_rest_delivers : (cap : ℕ) (reactions : List Reaction) (arrivals : List Item) (moves : List Move) (n : NetworkState) → 1 ≤ cap → IsRun cap (start reactions arrivals) moves n → IsAtRest cap n → n.delivered ≡ flow_through reactions arrivals
+pub every_rest_delivers : (cap : ℕ) (reactions : List Reaction) (arrivals : List Item) (moves : List Move) (n : NetworkState) → 1 ≤ cap
+    → IsRun cap (start reactions arrivals) moves n → IsAtRest cap n → n.delivered ≡ flow_through reactions arrivals
 every_rest_delivers cap reactions arrivals moves n room run rest =
     sym (empty_eventual_delivery n (every_rest_empty cap reactions arrivals moves n room run rest)) ∙ every_eventual_delivery cap reactions arrivals moves n run
 
 -- at rest no move is left of those of the start
-pub every_rest_moves : (cap : ℕ) (reactions : List Reaction) (arrivals : List Item) (moves : List Move) (n : NetworkState) → 1 ≤ cap → IsRun cap (start reactions arrivals) moves n → IsAtRest cap n → length moves ≡ moves_left (start reactions arrivals)
+pub every_rest_moves : (cap : ℕ) (reactions : List Reaction) (arrivals : List Item) (moves : List Move) (n : NetworkState) → 1 ≤ cap
+    → IsRun cap (start reactions arrivals) moves n → IsAtRest cap n → length moves ≡ moves_left (start reactions arrivals)
 every_rest_moves cap reactions arrivals moves n room run rest =
     let none : moves_left n ≡ 0 = empty_moves_left n (every_rest_empty cap reactions arrivals moves n room run rest) in
-    let both : length moves + moves_left n ≡ moves_left (start reactions arrivals) = run_moves cap (start reactions arrivals) n moves (start_shaped reactions arrivals) run in
+    let both : length moves + moves_left n ≡ moves_left (start reactions arrivals) =
+    run_moves cap (start reactions arrivals) n moves (start_shaped reactions arrivals) run in
     omega arith
 
 -- each queue holds at most as many items as it has room for
-every_queue_within : (cap : ℕ) (reactions : List Reaction) (arrivals : List Item) (moves : List Move) (n : NetworkState) → IsRun cap (start reactions arrivals) moves n → (k : ℕ) → length (queue n k) ≤ cap
+every_queue_within : (cap : ℕ) (reactions : List Reaction) (arrivals : List Item) (moves : List Move) (n : NetworkState)
+    → IsRun cap (start reactions arrivals) moves n → (k : ℕ) → length (queue n k) ≤ cap
 every_queue_within cap reactions arrivals moves n run =
     run_keeps cap (HasRoomKept cap) (λ u v move made kept. keeps_room cap u v move made kept) (start reactions arrivals) n moves
     (λ k. let none : length (queue (start reactions arrivals) k) ≡ 0 = ap length (start_queue reactions arrivals k) in omega arith) run
 
 -- where no flow has more than so many items, a run has few moves
 pub every_run_short : (cap : ℕ) (reactions : List Reaction) (arrivals : List Item) (moves : List Move) (n : NetworkState) (most : ℕ)
-    → ((k : ℕ) → k ≤ length reactions → length (flow_through (take k reactions) arrivals) ≤ most) → IsRun cap (start reactions arrivals) moves n → length moves ≤ (2 * length reactions + 2) * most
+    → ((k : ℕ) → k ≤ length reactions → length (flow_through (take k reactions) arrivals) ≤ most) → IsRun cap (start reactions arrivals) moves n
+    → length moves ≤ (2 * length reactions + 2) * most
 every_run_short cap reactions arrivals moves n most few run =
-    let both : length moves + moves_left n ≡ moves_left (start reactions arrivals) = run_moves cap (start reactions arrivals) n moves (start_shaped reactions arrivals) run in
+    let both : length moves + moves_left n ≡ moves_left (start reactions arrivals) =
+    run_moves cap (start reactions arrivals) n moves (start_shaped reactions arrivals) run in
     let bound : moves_left (start reactions arrivals) ≤ (2 * length reactions + 2) * most = start_moves reactions arrivals most few in
     omega arith
 
@@ -67,7 +76,8 @@ some_run_rests cap reactions arrivals room = comes_to_rest cap (start reactions 
 -- Rings
 
 -- ring k was sent the flow through the first k reactions, and gave it
-ring_sent : (reactions : List Reaction) (items : List Item) (rings : List Ring) (k : ℕ) (ring : Ring) → PassOn reactions items rings → slice_get rings k ≡ Some ring
+ring_sent : (reactions : List Reaction) (items : List Item) (rings : List Ring) (k : ℕ) (ring : Ring) → PassOn reactions items rings
+    → slice_get rings k ≡ Some ring
     → (k ≤ length reactions) × (ring.sent ≡ flow_through (take k reactions) items) × (ring.given ≡ ring.sent)
 ring_sent reactions items [] k ring passed at = absurd passed
 ring_sent [] items (first ∷ rings) zero ring passed at =
@@ -82,7 +92,8 @@ ring_sent (reaction ∷ reactions) items (first ∷ rings) (suc k) ring passed a
     (omega (arith, later.0), later.1 ∙ ap (λ given. flow_through (take k reactions) (flow reaction given)) (passed.1 ∙ passed.0), later.2)
 
 -- at rest each queue was sent the flow through the stages before it
-rest_sent : (cap : ℕ) (reactions : List Reaction) (items : List Item) (resting : RestingRun cap (start reactions items)) (k : ℕ) → 1 ≤ cap → k ≤ length reactions
+rest_sent : (cap : ℕ) (reactions : List Reaction) (items : List Item) (resting : RestingRun cap (start reactions items)) (k : ℕ) → 1 ≤ cap
+    → k ≤ length reactions
     → sent_in cap resting.moves (start reactions items) k ≡ flow_through (take k reactions) items
 rest_sent cap reactions items resting k room l =
     let empty = every_rest_empty cap reactions items resting.moves resting.state room resting.run resting.rest in
@@ -93,7 +104,8 @@ rest_sent cap reactions items resting k room l =
     ∙ start_enters reactions items k l
 
 -- and gave it
-rest_given : (cap : ℕ) (reactions : List Reaction) (items : List Item) (resting : RestingRun cap (start reactions items)) (k : ℕ) → 1 ≤ cap → k ≤ length reactions
+rest_given : (cap : ℕ) (reactions : List Reaction) (items : List Item) (resting : RestingRun cap (start reactions items)) (k : ℕ) → 1 ≤ cap
+    → k ≤ length reactions
     → given_in cap resting.moves (start reactions items) k ≡ flow_through (take k reactions) items
 rest_given cap reactions items resting k room l =
     let empty = every_rest_empty cap reactions items resting.moves resting.state room resting.run resting.rest in
@@ -104,13 +116,15 @@ rest_given cap reactions items resting k room l =
     ∙ start_coming reactions items k l
 
 -- rings between stages that passed all on are the queues of some run at rest
-pub rings_run : (cap : ℕ) (reactions : List Reaction) (items : List Item) (rings : List Ring) → 1 ≤ cap → PassOn reactions items rings → IsRunOf cap reactions items rings
+pub rings_run : (cap : ℕ) (reactions : List Reaction) (items : List Item) (rings : List Ring) → 1 ≤ cap → PassOn reactions items rings
+    → IsRunOf cap reactions items rings
 rings_run cap reactions items rings room passed =
     let resting = some_run_rests cap reactions items room in
     record {
       resting = resting;
       sent = λ k ring at. let here = ring_sent reactions items rings k ring passed at in rest_sent cap reactions items resting k room here.0 ∙ sym here.1;
-      given = λ k ring at. let here = ring_sent reactions items rings k ring passed at in rest_given cap reactions items resting k room here.0 ∙ sym here.1 ∙ sym here.2;
+      given = λ k ring at. let here = ring_sent reactions items rings k ring passed at in rest_given cap reactions items resting k room here.0 ∙ sym here.1
+          ∙ sym here.2;
       delivered = λ ring at.
           let here = ring_sent reactions items rings (length reactions) ring passed at in
           every_rest_delivers cap reactions items resting.moves resting.state room resting.run resting.rest

@@ -1,5 +1,6 @@
 -- What each move keeps, and what it changes at each queue.
-use Rattle.std.proofs.Common.{ℕ, zero, suc, ◌+◌, ◌<◌, ◌≤◌, ◌≡◌, ◌≢◌, List, [], ◌∷◌, ◌++◌, Some, length, take, refl, sym, ◌∙◌, ap, subst, set, get_or, arith, ⊎_elim, append_assoc, length-append, length-set}
+use Rattle.std.proofs.Common.{ℕ, zero, suc, ◌+◌, ◌<◌, ◌≤◌, ◌≡◌, ◌≢◌, List, [], ◌∷◌, ◌++◌, Some, length, take, refl, sym, ◌∙◌, ap, subst, set, get_or, arith}
+use Rattle.std.proofs.Common.{⊎_elim, append_assoc, length-append, length-set}
 use Rattle.std.specs.Prelude.{if◌then◌else◌}
 use Rattle.std.specs.List.{slice_get}
 use Rattle.std.proofs.lemmas.Bool.{cases_eq, eq-eqb, ne_eqb}
@@ -12,7 +13,8 @@ use Rattle.tox_network.specs.NetworkState.{NetworkState, queue, unsent_of, unsen
 use Rattle.tox_network.specs.Moves.{reacted, after, only_at, entering, leaving}
 use Rattle.tox_network.specs.runs.EventualDelivery.{to_give, to_enter, coming, eventual_delivery, sum_to, moves_left}
 use Rattle.tox_network.proofs.MoveForms.{arrives, takes, puts, delivers}
-use Rattle.tox_network.proofs.Coming.{IsShaped, taken_arrivals, taken_coming, taken_coming_at, taken_given, taken_stage, put_coming, put_given, put_stage, arrived_coming, arrived_stages, delivered_coming, delivered_coming_last, delivered_stages}
+use Rattle.tox_network.proofs.Coming.{IsShaped, taken_arrivals, taken_coming, taken_coming_at, taken_given, taken_stage, put_coming, put_given, put_stage}
+use Rattle.tox_network.proofs.Coming.{arrived_coming, arrived_stages, delivered_coming, delivered_coming_last, delivered_stages}
 
 -- The shape
 
@@ -39,7 +41,8 @@ keeps_shape cap n t move shaped h = keeps_queues cap n t move h ∙ shaped ∙ a
 abbrev pub HasRoomKept : ℕ → NetworkState → Type 0
 HasRoomKept cap n = (k : ℕ) → length (queue n k) ≤ cap
 
-length-set_within : (lists : List (List Item)) (i : ℕ) (items : List Item) (cap : ℕ) → length items ≤ cap → ((k : ℕ) → length (get_or lists k []) ≤ cap) → (k : ℕ) → length (get_or (set lists i items) k []) ≤ cap
+length-set_within : (lists : List (List Item)) (i : ℕ) (items : List Item) (cap : ℕ) → length items ≤ cap → ((k : ℕ) → length (get_or lists k []) ≤ cap)
+    → (k : ℕ) → length (get_or (set lists i items) k []) ≤ cap
 length-set_within [] i items cap few each k = each k
 length-set_within (first ∷ lists) zero items cap few each zero = few
 length-set_within (first ∷ lists) zero items cap few each (suc k) = each (suc k)
@@ -81,7 +84,8 @@ same_given : (n t : NetworkState) (k : ℕ) → slice_get n.stages k ≡ slice_g
 same_given n t k stages items = ap (λ stage. to_give stage (coming n k)) stages ∙ ap (to_give (slice_get t.stages k)) items
 
 -- what will be given to a queue is what the move brings to it, and what will be given to it after that
-pub enters : (cap : ℕ) (n t : NetworkState) (move : Move) → IsShaped n → after cap n move ≡ Some t → (k : ℕ) → k ≤ length n.stages → to_enter n k ≡ entering n move k ++ to_enter t k
+pub enters : (cap : ℕ) (n t : NetworkState) (move : Move) → IsShaped n → after cap n move ≡ Some t → (k : ℕ) → k ≤ length n.stages
+    → to_enter n k ≡ entering n move k ++ to_enter t k
 enters cap n t Arrive shaped h zero l =
     let m = arrives cap n t h in
     split_first n.arrivals m.item m.rest m.first
@@ -96,7 +100,8 @@ enters cap n t (Take j) shaped h zero l = taken_arrivals n j t (takes n j t h)
 enters cap n t (Take j) shaped h (suc k) l =
     let m = takes n j t h in
     ⊎_elim
-    (λ (e : j ≡ k). ap (λ i. to_give (slice_get n.stages i) (coming n i)) (sym e) ∙ taken_given n j t shaped m ∙ ap (λ i. to_give (slice_get t.stages i) (coming t i)) e)
+    (λ (e : j ≡ k). ap (λ i. to_give (slice_get n.stages i) (coming n i)) (sym e) ∙ taken_given n j t shaped m
+    ∙ ap (λ i. to_give (slice_get t.stages i) (coming t i)) e)
     (λ (ne : j ≡ k → ⊥). let ne' : k ≢ j = omega arith in same_given n t k (taken_stage n j t m k ne') (taken_coming n j t shaped m k ne'))
     (cases_eq j k)
 enters cap n t (Put j) shaped h zero l =
@@ -125,7 +130,8 @@ enters cap n t Deliver shaped h (suc k) l =
     same_given n t k (ap (λ stages. slice_get stages k) (delivered_stages n t m)) (delivered_coming n t m k (omega arith))
 
 -- what is to come to a queue is what the move takes out of it, and what is to come to it after that
-pub leaves : (cap : ℕ) (n t : NetworkState) (move : Move) → IsShaped n → after cap n move ≡ Some t → (k : ℕ) → k ≤ length n.stages → coming n k ≡ leaving n move k ++ coming t k
+pub leaves : (cap : ℕ) (n t : NetworkState) (move : Move) → IsShaped n → after cap n move ≡ Some t → (k : ℕ) → k ≤ length n.stages
+    → coming n k ≡ leaving n move k ++ coming t k
 leaves cap n t Arrive shaped h k l = arrived_coming cap n t shaped (arrives cap n t h) k
 leaves cap n t (Take j) shaped h k l =
     let m = takes n j t h in
@@ -153,13 +159,15 @@ leaves cap n t Deliver shaped h k l =
     (cases_eq last k)
 
 -- what leaves the last queue is delivered
-pub delivers_what_leaves : (cap : ℕ) (n t : NetworkState) (move : Move) → after cap n move ≡ Some t → t.delivered ≡ n.delivered ++ leaving n move (length n.stages)
+pub delivers_what_leaves : (cap : ℕ) (n t : NetworkState) (move : Move) → after cap n move ≡ Some t
+    → t.delivered ≡ n.delivered ++ leaving n move (length n.stages)
 delivers_what_leaves cap n t Arrive h = ap (λ u. u.delivered) (arrives cap n t h).left ∙ sym (append-nil n.delivered)
 delivers_what_leaves cap n t (Take j) h =
     let m = takes n j t h in
     let within : j < length n.stages = slice_get_within n.stages j m.stage m.at in
     let other : length n.stages ≢ j = omega arith in
-    ap (λ u. u.delivered) m.left ∙ sym (append-nil n.delivered) ∙ ap (λ items. n.delivered ++ items) (sym (only_at-other j (length n.stages) (take 1 (queue n j)) other))
+    ap (λ u. u.delivered) m.left ∙ sym (append-nil n.delivered) ∙ ap (λ items. n.delivered ++ items)
+    (sym (only_at-other j (length n.stages) (take 1 (queue n j)) other))
 delivers_what_leaves cap n t (Put j) h = ap (λ u. u.delivered) (puts cap n j t h).left ∙ sym (append-nil n.delivered)
 delivers_what_leaves cap n t Deliver h =
     let m = delivers n t h in
@@ -247,8 +255,10 @@ one_less cap n t move shaped h =
     let f : ℕ → ℕ = λ k. length (to_enter n k) + length (coming n k) in
     let g : ℕ → ℕ = λ k. length (to_enter t k) + length (coming t k) in
     let both : (k : ℕ) → k ≤ last → f k ≡ g k + count_at n move k = λ k l.
-    let e : length (to_enter n k) ≡ length (entering n move k) + length (to_enter t k) = ap length (enters cap n t move shaped h k l) ∙ length-append (entering n move k) (to_enter t k) in
-    let c : length (coming n k) ≡ length (leaving n move k) + length (coming t k) = ap length (leaves cap n t move shaped h k l) ∙ length-append (leaving n move k) (coming t k) in
+    let e : length (to_enter n k) ≡ length (entering n move k) + length (to_enter t k) = ap length (enters cap n t move shaped h k l)
+    ∙ length-append (entering n move k) (to_enter t k) in
+    let c : length (coming n k) ≡ length (leaving n move k) + length (coming t k) = ap length (leaves cap n t move shaped h k l)
+    ∙ length-append (leaving n move k) (coming t k) in
     omega arith in
     let within : place ≤ last = place_within cap n t move h in
     let more : f place ≡ g place + 1 = both place within ∙ ap (λ count. g place + count) (count_at-place cap n t move h) in

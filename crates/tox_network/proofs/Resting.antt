@@ -48,13 +48,16 @@ sum_to-zero f (suc k) each = let before : sum_to f k ≡ 0 = sum_to-zero f k eac
 pub empty_moves_left : (n : NetworkState) → IsEmpty n → moves_left n ≡ 0
 empty_moves_left n e =
     sum_to-zero (λ k. length (to_enter n k) + length (coming n k)) (length n.stages)
-    (λ k. let a : length (to_enter n k) ≡ 0 = ap length (empty_to_enter n e k) in let b : length (coming n k) ≡ 0 = ap length (empty_coming n e k) in omega arith)
+    (λ k. let a : length (to_enter n k) ≡ 0 = ap length (empty_to_enter n e k) in let b : length (coming n k) ≡ 0 = ap length (empty_coming n e k) in
+    omega arith)
 
-not_taken : (n : NetworkState) (k : ℕ) (stage : Option StageState) → ((one : StageState) → stage ≡ Some one → one.unsent ≡ []) → queue n k ≡ [] → take_at n k stage ≡ None
+not_taken : (n : NetworkState) (k : ℕ) (stage : Option StageState) → ((one : StageState) → stage ≡ Some one → one.unsent ≡ []) → queue n k ≡ []
+    → take_at n k stage ≡ None
 not_taken n k None idle none = refl
 not_taken n k (Some stage) idle none = ap (take_first n k stage stage.unsent) none ∙ ap (λ unsent. take_first n k stage unsent []) (idle stage refl)
 
-not_put : (cap : ℕ) (n : NetworkState) (k : ℕ) (stage : Option StageState) → ((one : StageState) → stage ≡ Some one → one.unsent ≡ []) → put_at cap n k stage ≡ None
+not_put : (cap : ℕ) (n : NetworkState) (k : ℕ) (stage : Option StageState) → ((one : StageState) → stage ≡ Some one → one.unsent ≡ [])
+    → put_at cap n k stage ≡ None
 not_put cap n k None idle = refl
 not_put cap n k (Some stage) idle = ap (put_first cap n k stage) (idle stage refl)
 
@@ -86,7 +89,8 @@ clear_start n shaped none = record {
   unsent = λ k stage l at. let within : k < length n.stages = slice_get_within n.stages k stage at in absurd (omega arith);
 }
 
-clear_more : (n : NetworkState) (k : ℕ) (stage : StageState) → IsClear n (suc k) → slice_get n.stages k ≡ Some stage → stage.unsent ≡ [] → queue n k ≡ [] → IsClear n k
+clear_more : (n : NetworkState) (k : ℕ) (stage : StageState) → IsClear n (suc k) → slice_get n.stages k ≡ Some stage → stage.unsent ≡ [] → queue n k ≡ []
+    → IsClear n k
 clear_more n k stage clear at idle none = record {
   queues = λ j l. ⊎_elim
       (λ (e : k ≡ j). subst (λ i. queue n i ≡ []) e none)
@@ -101,7 +105,8 @@ clear_more n k stage clear at idle none = record {
 }
 
 finds_if : (cap : ℕ) (n : NetworkState) (items : List Item) (move : Move) (other : Option Move)
-    → ((item : Item) (rest : List Item) → items ≡ item ∷ rest → Finds cap n (Some move)) → (items ≡ [] → Finds cap n other) → Finds cap n (if_any items move other)
+    → ((item : Item) (rest : List Item) → items ≡ item ∷ rest → Finds cap n (Some move)) → (items ≡ [] → Finds cap n other)
+    → Finds cap n (if_any items move other)
 finds_if cap n [] move other some none = none refl
 finds_if cap n (item ∷ rest) move other some none = some item rest refl
 
@@ -146,14 +151,16 @@ rest_possible cap n (Some move) found rest = absurd (none-some found.0 (sym (res
 rest_possible cap n None found rest = refl
 
 -- and so every network comes to rest
-rests_from : (cap : ℕ) (n : NetworkState) (left : ℕ) (reported : Option Move) → 1 ≤ cap → IsShaped n → moves_left n ≡ left → Finds cap n reported → RestingRun cap n
+rests_from : (cap : ℕ) (n : NetworkState) (left : ℕ) (reported : Option Move) → 1 ≤ cap → IsShaped n → moves_left n ≡ left → Finds cap n reported
+    → RestingRun cap n
 rests_from cap n left None room shaped count found = record { moves = []; state = n; run = refl; rest = empty_rest cap n found }
 rests_from cap n zero (Some move) room shaped count found =
     let e : moves_left n ≡ moves_left found.0 + 1 = one_less cap n found.0 move shaped found.1 in absurd (omega arith)
 rests_from cap n (suc left) (Some move) room shaped count found =
     let e : moves_left n ≡ moves_left found.0 + 1 = one_less cap n found.0 move shaped found.1 in
     let still_shaped : IsShaped found.0 = keeps_shape cap n found.0 move shaped found.1 in
-    let later : RestingRun cap found.0 = rests_from cap found.0 left (possible found.0) room still_shaped (omega arith) (finds_possible cap found.0 room still_shaped) in
+    let later : RestingRun cap found.0 = rests_from cap found.0 left (possible found.0) room still_shaped (omega arith)
+    (finds_possible cap found.0 room still_shaped) in
     record { moves = move ∷ later.moves; state = later.state; run = ap (option_and_then (after_all cap later.moves)) found.1 ∙ later.run; rest = later.rest }
 
 pub comes_to_rest : (cap : ℕ) (n : NetworkState) → 1 ≤ cap → IsShaped n → RestingRun cap n

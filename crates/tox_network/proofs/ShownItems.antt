@@ -32,14 +32,16 @@ some_ending slices end self view ended none =
     let unended : has_final self ≡ false = ap has_final (sym view) ∙ ap (λ o. has_final (shown slices o)) none ∙ final_is_not slices in cc
 
 -- a final behind the slices
-pub final_pushed : (slices : List Slice) (end : Option Ending) (self : List Item) (item final : Item) → shown slices end ≡ self → has_final self ≡ false → item ≡ final
+pub final_pushed : (slices : List Slice) (end : Option Ending) (self : List Item) (item final : Item) → shown slices end ≡ self → has_final self ≡ false
+    → item ≡ final
     → map as_chunk slices ++ final ∷ [] ≡ self ++ item ∷ []
 final_pushed slices end self item final view unended is =
     let none : end ≡ None = no_ending slices end self view unended in
     ap (λ one. map as_chunk slices ++ one ∷ []) (sym is) ∙ ap (λ items. items ++ item ∷ []) (ap (shown slices) (sym none) ∙ view)
 
 -- a chunk behind the slices
-pub chunk_pushed : (slices more : List Slice) (slice : Slice) (end : Option Ending) (self : List Item) (item : Item) → shown slices end ≡ self → has_final self ≡ false → item ≡ as_chunk slice → more ≡ slices ++ slice ∷ []
+pub chunk_pushed : (slices more : List Slice) (slice : Slice) (end : Option Ending) (self : List Item) (item : Item) → shown slices end ≡ self
+    → has_final self ≡ false → item ≡ as_chunk slice → more ≡ slices ++ slice ∷ []
     → shown more end ≡ self ++ item ∷ []
 chunk_pushed slices more slice end self item view unended is pushed =
     let none : end ≡ None = no_ending slices end self view unended in

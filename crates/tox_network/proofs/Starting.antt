@@ -1,5 +1,6 @@
 -- What is to come at the start of a network.
-use Rattle.std.proofs.Common.{ℕ, zero, suc, ◌+◌, ◌*◌, ◌≤◌, ◌≡◌, List, [], ◌∷◌, ◌++◌, Some, length, take, replicate, refl, sym, ◌∙◌, ap, subst, arith, ⊎_elim, get_or}
+use Rattle.std.proofs.Common.{ℕ, zero, suc, ◌+◌, ◌*◌, ◌≤◌, ◌≡◌, List, [], ◌∷◌, ◌++◌, Some, length, take, replicate, refl, sym, ◌∙◌, ap, subst, arith, ⊎_elim}
+use Rattle.std.proofs.Common.{get_or}
 use Rattle.std.specs.List.{slice_get}
 use Rattle.std.specs.Option.{option_map}
 use Rattle.std.proofs.lemmas.List.{length-replicate, length-map, take_all}
@@ -34,7 +35,8 @@ flow_through-more [] items k reaction h = absurd (none-some reaction h)
 flow_through-more (first ∷ reactions) items zero reaction h = ap (λ one. flow one items) (same_Some _ _ h)
 flow_through-more (first ∷ reactions) items (suc k) reaction h = flow_through-more reactions (flow first items) k reaction h
 
-start_stage : (reactions : List Reaction) (arrivals : List Item) (k : ℕ) (reaction : Reaction) → slice_get reactions k ≡ Some reaction → slice_get (start reactions arrivals).stages k ≡ Some (idle_stage reaction)
+start_stage : (reactions : List Reaction) (arrivals : List Item) (k : ℕ) (reaction : Reaction) → slice_get reactions k ≡ Some reaction
+    → slice_get (start reactions arrivals).stages k ≡ Some (idle_stage reaction)
 start_stage reactions arrivals k reaction at = slice_get-map idle_stage reactions k ∙ ap (option_map idle_stage) at
 
 -- at first, what comes to queue k is what will be given to it
@@ -43,7 +45,8 @@ start_queued reactions arrivals zero = ap (λ items. items ++ arrivals) (start_q
 start_queued reactions arrivals (suc k) = ap (λ items. items ++ to_enter (start reactions arrivals) (suc k)) (start_queue reactions arrivals (k + 1))
 
 -- and that is the flow through the first k reactions
-pub start_enters : (reactions : List Reaction) (arrivals : List Item) (k : ℕ) → k ≤ length reactions → to_enter (start reactions arrivals) k ≡ flow_through (take k reactions) arrivals
+pub start_enters : (reactions : List Reaction) (arrivals : List Item) (k : ℕ) → k ≤ length reactions
+    → to_enter (start reactions arrivals) k ≡ flow_through (take k reactions) arrivals
 start_enters reactions arrivals zero l = refl
 start_enters reactions arrivals (suc k) l =
     ⊎_elim
@@ -54,10 +57,12 @@ start_enters reactions arrivals (suc k) l =
     (λ past. absurd (omega arith))
     (slice_get_cases reactions k).1
 
-pub start_coming : (reactions : List Reaction) (arrivals : List Item) (k : ℕ) → k ≤ length reactions → coming (start reactions arrivals) k ≡ flow_through (take k reactions) arrivals
+pub start_coming : (reactions : List Reaction) (arrivals : List Item) (k : ℕ) → k ≤ length reactions
+    → coming (start reactions arrivals) k ≡ flow_through (take k reactions) arrivals
 start_coming reactions arrivals k l = start_queued reactions arrivals k ∙ start_enters reactions arrivals k l
 
-pub start_eventual_delivery : (reactions : List Reaction) (arrivals : List Item) → eventual_delivery (start reactions arrivals) ≡ flow_through reactions arrivals
+pub start_eventual_delivery : (reactions : List Reaction) (arrivals : List Item)
+    → eventual_delivery (start reactions arrivals) ≡ flow_through reactions arrivals
 start_eventual_delivery reactions arrivals =
     ap (coming (start reactions arrivals)) (start_stages reactions arrivals)
     ∙ start_coming reactions arrivals (length reactions) (omega arith)
@@ -72,7 +77,8 @@ sum_to-most f most (suc k) each =
     omega arith
 
 -- the moves of a whole run, where no flow has more than so many items
-pub start_moves : (reactions : List Reaction) (arrivals : List Item) (most : ℕ) → ((k : ℕ) → k ≤ length reactions → length (flow_through (take k reactions) arrivals) ≤ most)
+pub start_moves : (reactions : List Reaction) (arrivals : List Item) (most : ℕ)
+    → ((k : ℕ) → k ≤ length reactions → length (flow_through (take k reactions) arrivals) ≤ most)
     → moves_left (start reactions arrivals) ≤ (2 * length reactions + 2) * most
 start_moves reactions arrivals most few =
     let n : NetworkState = start reactions arrivals in

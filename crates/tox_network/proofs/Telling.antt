@@ -33,9 +33,11 @@ tells_found network (Some move) found = record {
 
 pub tells : (network : NetworkView) (reported : Option Move) → IsSoundNetwork network → reported ≡ possible (state_of network) → Tells network reported
 tells network reported sound is =
-    subst (Tells network) (sym is) (tells_found network (possible (state_of network)) (finds_possible network.cap (state_of network) sound.room (sound_shape network sound)))
+    subst (Tells network) (sym is) (tells_found network (possible (state_of network))
+    (finds_possible network.cap (state_of network) sound.room (sound_shape network sound)))
 
-pub tells_at : (network now : NetworkView) (reported : Option Move) → IsSoundNetwork network → network ≡ now → reported ≡ possible (state_of now) → Tells now reported
+pub tells_at : (network now : NetworkView) (reported : Option Move) → IsSoundNetwork network → network ≡ now → reported ≡ possible (state_of now)
+    → Tells now reported
 tells_at network now reported sound same is = tells now reported (subst IsSoundNetwork same sound) is
 
 -- an idle stage has no item, so its queue is looked at
@@ -45,7 +47,8 @@ before_idle network place k stage next at idle =
     let n = state_of network in
     let others : Option Move = if_any (queue n k) (Take k) (possible_before n k) in
     let same : suc k ≡ place = omega arith in
-    subst (λ p. possible_before n p ≡ others) same (ap (λ one. if_any (unsent_of one) (Put k) others) (state_at network k stage at) ∙ ap (λ items. if_any items (Put k) others) idle)
+    subst (λ p. possible_before n p ≡ others) same (ap (λ one. if_any (unsent_of one) (Put k) others) (state_at network k stage at)
+    ∙ ap (λ items. if_any items (Put k) others) idle)
 
 pub any_some : (items : List Item) (move : Move) (other : Option Move) → (items ≡ [] → ⊥) → if_any items move other ≡ Some move
 any_some [] move other some = absurd (some refl)
@@ -61,4 +64,5 @@ before_busy network place k stage next at busy =
     let n = state_of network in
     let others : Option Move = if_any (queue n k) (Take k) (possible_before n k) in
     let same : suc k ≡ place = omega arith in
-    subst (λ p. possible_before n p ≡ Some (Put k)) same (ap (λ one. if_any (unsent_of one) (Put k) others) (state_at network k stage at) ∙ any_some stage.pending (Put k) others busy)
+    subst (λ p. possible_before n p ≡ Some (Put k)) same (ap (λ one. if_any (unsent_of one) (Put k) others) (state_at network k stage at)
+    ∙ any_some stage.pending (Put k) others busy)

@@ -15,7 +15,8 @@ use Rattle.tox_network.specs.NetworkView.{NetworkView, state_of, IsStep, HasChun
 use Rattle.tox_network.specs.runs.Settling.{turn, FollowsTurns, Settles, IsRefusedAt}
 use Rattle.tox_network.proofs.AlongRuns.{went_on}
 
-run_more : (cap : ℕ) (n u t : NetworkState) (moves : List Move) (move : Move) → IsRun cap n moves u → after cap u move ≡ Some t → IsRun cap n (moves ++ move ∷ []) t
+run_more : (cap : ℕ) (n u t : NetworkState) (moves : List Move) (move : Move) → IsRun cap n moves u → after cap u move ≡ Some t
+    → IsRun cap n (moves ++ move ∷ []) t
 run_more cap n u t [] move run made =
     ap (option_and_then (after_all cap [])) (subst (λ v. after cap v move ≡ Some t) (sym (same_Some _ _ run)) made)
 run_more cap n u t (first ∷ moves) move run made =
@@ -31,7 +32,8 @@ first_of_rest listed zero = refl
 first_of_rest [] (suc k) = refl
 first_of_rest (move ∷ moves) (suc k) = first_of_rest moves k
 
-follows_more : (cap : ℕ) (listed made : List Move) (n u : NetworkState) (move : Move) → IsRun cap n made u → FollowsTurns cap listed made n → turn cap (slice_get listed (length made)) u ≡ Some move → FollowsTurns cap listed (made ++ move ∷ []) n
+follows_more : (cap : ℕ) (listed made : List Move) (n u : NetworkState) (move : Move) → IsRun cap n made u → FollowsTurns cap listed made n
+    → turn cap (slice_get listed (length made)) u ≡ Some move → FollowsTurns cap listed (made ++ move ∷ []) n
 follows_more cap listed [] n u move run follows next = (ap (turn cap (slice_get listed 0)) (same_Some _ _ run) ∙ next, λ t made. tt)
 follows_more cap listed (first ∷ made) n u move run follows next =
     let on = went_on (after_all cap made) (after cap n first) u run in
@@ -50,10 +52,13 @@ turn_at moves first mid rest s is move next =
     ap (λ one. turn first.cap one (state_of mid)) (sym listed) ∙ ap (λ cap. turn cap (slice_get rest 0) (state_of mid)) (sym s.cap) ∙ next
 
 -- a turn more, and a listed move less
-pub settles_more : (moves : List Move) (first mid last : NetworkView) (rest : List Move) (s : Settles moves first mid) → rest ≡ drop (length s.made) moves → (move : Move) → turn mid.cap (slice_get rest 0) (state_of mid) ≡ Some move → IsStep move mid last → (t : Settles moves first last) × (drop 1 rest ≡ drop (length t.made) moves)
+pub settles_more : (moves : List Move) (first mid last : NetworkView) (rest : List Move) (s : Settles moves first mid) → rest ≡ drop (length s.made) moves
+    → (move : Move) → turn mid.cap (slice_get rest 0) (state_of mid) ≡ Some move → IsStep move mid last
+    → (t : Settles moves first last) × (drop 1 rest ≡ drop (length t.made) moves)
 settles_more moves first mid last rest s is move next step =
     let here = turn_at moves first mid rest s is move next in
-    let moved : after first.cap (state_of mid) move ≡ Some (state_of last) = subst (λ cap. after cap (state_of mid) move ≡ Some (state_of last)) s.cap step.moved in
+    let moved : after first.cap (state_of mid) move ≡ Some (state_of last) =
+    subst (λ cap. after cap (state_of mid) move ≡ Some (state_of last)) s.cap step.moved in
     let long : length (s.made ++ move ∷ []) ≡ length s.made + 1 = length_push s.made move in
     let counted : last.steps ≡ mid.steps + 1 = step.counted in
     let before : mid.steps ≡ first.steps + length s.made = s.counted in (
@@ -69,14 +74,16 @@ settles_more moves first mid last rest s is move next step =
     )
 
 -- the next item of a slice's iterator is the first that is left
-pub next_listed : (s t : Iter Move) (next : Option (Bor Move)) → iter_steps s next t → (option_map (λ one. one.now) next ≡ slice_get (iter_rest s) 0) × (iter_rest t ≡ drop 1 (iter_rest s))
+pub next_listed : (s t : Iter Move) (next : Option (Bor Move)) → iter_steps s next t
+    → (option_map (λ one. one.now) next ≡ slice_get (iter_rest s) 0) × (iter_rest t ≡ drop 1 (iter_rest s))
 next_listed s t None taken =
     let none : iter_rest s ≡ [] = nil_from_length (iter_rest s) taken.0 in
     (ap (λ moves. slice_get moves 0) (sym none), ap iter_rest taken.1 ∙ none ∙ ap (drop 1) (sym none))
 next_listed s t (Some move) taken = (ap (λ moves. slice_get moves 0) (sym taken), ap (drop 1) (sym taken))
 
 -- memory that is refused leaves the moves made before
-pub refused_at : (moves : List Move) (first mid last : NetworkView) (rest : List Move) (s : Settles moves first mid) → rest ≡ drop (length s.made) moves → last ≡ mid
+pub refused_at : (moves : List Move) (first mid last : NetworkView) (rest : List Move) (s : Settles moves first mid) → rest ≡ drop (length s.made) moves
+    → last ≡ mid
     → turn mid.cap (slice_get rest 0) (state_of mid) ≡ Some Deliver → HasChunkFirst mid → IsRefusedAt moves first last
 refused_at moves first mid last rest s is same next chunk =
     let here : IsRefusedAt moves first mid = record { settles = s; delivers = turn_at moves first mid rest s is Deliver next; chunk = chunk } in

@@ -19,14 +19,16 @@ stored_and_quiet (Quiet ∷ items) = append-nil (Quiet ∷ items)
 
 -- at first all arrivals wait
 pub all_wait : (items stored : List Item) (quiet : Bool) → items ≡ stored → quiet ≡ list_all (λ item. not (is_final item)) items
-    → ◌≡◌ {A = Arriving} (record { arrived = arrival_list items; waiting = items ++ quiet_item quiet }) (record { arrived = arrival_list stored; waiting = arrival_list stored })
+    → ◌≡◌ {A = Arriving} (record { arrived = arrival_list items; waiting = items ++ quiet_item quiet })
+    (record { arrived = arrival_list stored; waiting = arrival_list stored })
 all_wait items stored quiet same reported =
     let with : List Item → Arriving = λ waiting. record { arrived = arrival_list items; waiting = waiting } in
     ap (λ waits. with (items ++ quiet_item waits)) reported ∙ ap with (stored_and_quiet items)
     ∙ ap (λ list. record { arrived = arrival_list list; waiting = arrival_list list }) same
 
 -- where nothing waits, all stored items are in
-pub all_entered : (items : List Item) (entered : ℕ) (quiet : Bool) → entered ≤ length items → drop entered items ++ quiet_item quiet ≡ [] → entered ≡ length items
+pub all_entered : (items : List Item) (entered : ℕ) (quiet : Bool) → entered ≤ length items → drop entered items ++ quiet_item quiet ≡ []
+    → entered ≡ length items
 all_entered items entered quiet within none = omega (arith, ap length none, length-append (drop entered items) (quiet_item quiet), length-drop entered items)
 
 pub arrived-arrival_list : (items : List Item) → arrived (arrival_list items) ≡ arrived items

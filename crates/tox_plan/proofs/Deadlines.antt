@@ -1,5 +1,6 @@
 -- Past a plan's deadline nothing changes: what comes later finds everything cut off.
-use Rattle.std.proofs.Common.{◌≡◌, ℕ, ◌<◌, ◌≤◌, min, if◌then◌else◌, Bool, true, false, List, [], ◌∷◌, ◌++◌, Option, Some, None, refl, ap, ◌∙◌, sym, subst, arith, ◌⊎◌, inl, inr}
+use Rattle.std.proofs.Common.{◌≡◌, ℕ, ◌<◌, ◌≤◌, min, if◌then◌else◌, Bool, true, false, List, [], ◌∷◌, ◌++◌, Option, Some, None, refl, ap, ◌∙◌, sym, subst}
+use Rattle.std.proofs.Common.{arith, ◌⊎◌, inl, inr}
 use Rattle.std.specs.Prelude.{nat_lt}
 use Rattle.std.proofs.lemmas.Bool.{le-ltb, ltb-true, ltb-false}
 use Rattle.std.proofs.lemmas.Option.{same_Some}
@@ -99,7 +100,8 @@ late_ops-none d (Halt None after end ∷ ops) none = (tt, late_ops-none d ops no
 late_ops-none d (Halt (Some at) after end ∷ ops) none = absurd (earlier-some at (deadline_of ops) none)
 
 -- the earliest of an operation that stops everything from an instant on and what the other operations say
-module _ (d instant : ℕ) (op : Op) (ops : List Op) (late : (e : ℕ) → e ≤ instant → IsLateOp e op) (stop : instant ≡ d → IsStop d op) (others : (e : ℕ) → deadline_of ops ≡ Some e → AreLateOps e ops × HaveStop e ops) where
+module _ (d instant : ℕ) (op : Op) (ops : List Op) (late : (e : ℕ) → e ≤ instant → IsLateOp e op) (stop : instant ≡ d → IsStop d op)
+    (others : (e : ℕ) → deadline_of ops ≡ Some e → AreLateOps e ops × HaveStop e ops) where
   first-stop : (other : Option ℕ) → deadline_of ops ≡ other → earlier instant other ≡ Some d → AreLateOps d (op ∷ ops) × HaveStop d (op ∷ ops)
   first-stop None is first = let same : instant ≡ d = same_Some instant d first in ((late d (omega (arith, same)), late_ops-none d ops is), inl (stop same))
   first-stop (Some e) is first = by (nat_lt e instant) refl
@@ -111,8 +113,10 @@ module _ (d instant : ℕ) (op : Op) (ops : List Op) (late : (e : ℕ) → e ≤
       later = earlier-late_ops d e ops (omega (arith, same)) (others e is).0
 
       by : (b : Bool) → nat_lt e instant ≡ b → AreLateOps d (op ∷ ops) × HaveStop d (op ∷ ops)
-      by true below = let less : e < instant = ltb-true e instant below in ((late d (omega (arith, same)), later), inr (subst (λ e. HaveStop e ops) (omega (arith, same, less)) (others e is).1))
-      by false below = let not_less : instant ≤ e = ltb-false e instant below in ((late d (omega (arith, same)), later), inl (stop (omega (arith, same, not_less))))
+      by true below = let less : e < instant = ltb-true e instant below in
+          ((late d (omega (arith, same)), later), inr (subst (λ e. HaveStop e ops) (omega (arith, same, less)) (others e is).1))
+      by false below = let not_less : instant ≤ e = ltb-false e instant below in
+          ((late d (omega (arith, same)), later), inl (stop (omega (arith, same, not_less))))
 
 -- the deadline is the first instant from which on some operation stops everything
 pub stop-deadline : (d : ℕ) (ops : List Op) → deadline_of ops ≡ Some d → AreLateOps d ops × HaveStop d ops
@@ -121,11 +125,13 @@ stop-deadline d (Delay fixed latency jitter lane until from ∷ ops) is = let la
 stop-deadline d (Pace rate until from ∷ ops) is = let late = stop-deadline d ops is in ((tt, late.0), inr late.1)
 stop-deadline d (Slow millis ∷ ops) is = let late = stop-deadline d ops is in ((tt, late.0), inr late.1)
 stop-deadline d (Mute ending ∷ ops) is = (subst (λ d. AreLateOps d (Mute ending ∷ ops)) (same_Some 0 d is) (late_ops-start (Mute ending ∷ ops)), inl tt)
-stop-deadline d (Cutoff instant ∷ ops) is = first-stop d instant (Cutoff instant) ops (λ e before. before) (λ same. same) (λ e. stop-deadline e ops) (deadline_of ops) refl is
+stop-deadline d (Cutoff instant ∷ ops) is = first-stop d instant (Cutoff instant) ops (λ e before. before) (λ same. same) (λ e. stop-deadline e ops)
+    (deadline_of ops) refl is
 stop-deadline d (Slicing average variation micros lane until from ∷ ops) is = let late = stop-deadline d ops is in ((tt, late.0), inr late.1)
 stop-deadline d (Limit bytes ∷ ops) is = let late = stop-deadline d ops is in ((tt, late.0), inr late.1)
 stop-deadline d (Halt None after end ∷ ops) is = let late = stop-deadline d ops is in ((tt, late.0), inr late.1)
-stop-deadline d (Halt (Some at) after end ∷ ops) is = first-stop d at (Halt (Some at) after end) ops (λ e before. before) (λ same. same) (λ e. stop-deadline e ops) (deadline_of ops) refl is
+stop-deadline d (Halt (Some at) after end ∷ ops) is = first-stop d at (Halt (Some at) after end) ops (λ e before. before) (λ same. same)
+    (λ e. stop-deadline e ops) (deadline_of ops) refl is
 
 pub each-snoc : (Q : Op → Type 0) (ops : List Op) (op : Op) → EachOp Q (ops ++ op ∷ []) → EachOp Q ops × Q op
 each-snoc Q [] op each = (tt, each.0)
@@ -149,12 +155,15 @@ pub record IsLater (d : ℕ) (items : List Item) : Type 0 where
   pub late : AreLate d items
   pub final : has_final items ≡ true
 
-late-cursors : (d : ℕ) (draws : Draws) (start : ℕ) (cursors : List OpCursor) (source : Slice) (items : List Item) → d ≤ horizon → AreNested start cursors source → AreDrained start cursors source
+late-cursors : (d : ℕ) (draws : Draws) (start : ℕ) (cursors : List OpCursor) (source : Slice) (items : List Item) → d ≤ horizon → AreNested start cursors source
+    → AreDrained start cursors source
     → AreLateOps d (ops_of cursors) → IsLater d items → IsLater d (to_come_from draws start cursors source items)
-late-cursors d draws start [] source items fits nested drained from later = subst (λ items. IsLater d items) (sym (to_come_from-read draws start source items drained)) later
+late-cursors d draws start [] source items fits nested drained from later =
+    subst (λ items. IsLater d items) (sym (to_come_from-read draws start source items drained)) later
 late-cursors d draws start (cursor ∷ cursors) source items fits nested drained from later =
     let split = each-snoc (IsLateOp d) (ops_of cursors) cursor.op from in
-    let above : IsLater d (to_come_from draws cursor.stop cursors source items) = late-cursors d draws cursor.stop cursors source items fits nested.1 drained.2 split.0 later in
+    let above : IsLater d (to_come_from draws cursor.stop cursors source items) =
+    late-cursors d draws cursor.stop cursors source items fits nested.1 drained.2 split.0 later in
     subst (λ items. IsLater d items) (sym (gives-drained draws start cursor _ drained.0 drained.1))
     (record {
       late = late-flow d cursor.op draws fits (nested.0.heard drained.1) split.1 cursor.state _ above.late;
@@ -169,7 +178,8 @@ late-before d (Reset t) items late = le-ltb t d late.0
 late-before d Quiet items late = refl
 
 -- what stops everything from an instant on gives one ending for every later list
-stop-giving : (d : ℕ) (op : Op) (draws : Draws) → is_mute op ≡ false → IsStop d op → (last : Ending) × ((state : State) (item : Item) → is_before d item ≡ false → op_giving op draws state item ≡ final_of last ∷ [])
+stop-giving : (d : ℕ) (op : Op) (draws : Draws) → is_mute op ≡ false → IsStop d op
+    → (last : Ending) × ((state : State) (item : Item) → is_before d item ≡ false → op_giving op draws state item ≡ final_of last ∷ [])
 stop-giving d (Delay fixed latency jitter lane until from) draws loud stop = absurd stop
 stop-giving d (Pace rate until from) draws loud stop = absurd stop
 stop-giving d (Slow millis) draws loud stop = absurd stop
@@ -181,7 +191,8 @@ stop-giving d (Limit bytes) draws loud stop = absurd stop
 stop-giving d (Halt None after end) draws loud stop = absurd stop
 stop-giving d (Halt (Some at) after end) draws loud stop = (
   raised end d,
-  λ state item past. ap (λ at. halt_gives (Some at) after end state item) stop ∙ ap (λ early. if early then halt_after after end state item else (final_of (raised end d) ∷ [])) past,
+  λ state item past. ap (λ at. halt_gives (Some at) after end state item) stop
+      ∙ ap (λ early. if early then halt_after after end state item else (final_of (raised end d) ∷ [])) past,
 )
 
 -- it works at every instant
@@ -200,7 +211,8 @@ done-final state item StillOpen = refl
 done-final state item (ClosedAt t) = refl
 done-final state item (ResetAt t) = refl
 
-stop-flow : (d : ℕ) (op : Op) (draws : Draws) (state : State) (items : List Item) (last : Ending) → op_reaction op draws ≡ counted (op_giving op draws) → ((state : State) (item : Item) → is_before d item ≡ false → op_giving op draws state item ≡ final_of last ∷ [])
+stop-flow : (d : ℕ) (op : Op) (draws : Draws) (state : State) (items : List Item) (last : Ending) → op_reaction op draws ≡ counted (op_giving op draws)
+    → ((state : State) (item : Item) → is_before d item ≡ false → op_giving op draws state item ≡ final_of last ∷ [])
     → state.done ≡ false → IsLater d items → flow_from (op_reaction op draws) state items ≡ final_of last ∷ []
 stop-flow d op draws state [] last always gives running later = absurd (let none : false ≡ true = later.final in cc)
 stop-flow d op draws state (item ∷ items) last always gives running later =
@@ -208,20 +220,23 @@ stop-flow d op draws state (item ∷ items) last always gives running later =
     ∙ (Continues-counted (op_giving op draws) state item items (final_of last ∷ []) running (gives state item (late-before d item items later.late))).gives
     ∙ ap (λ more. final_of last ∷ more) (flow_from-done (counted (op_giving op draws)) _ items (done-final state item last))
 
-same-later : (d : ℕ) (draws : Draws) (start : ℕ) (cursors : List OpCursor) (source : Slice) (xs ys : List Item) → d ≤ horizon → AreNested start cursors source → AreDrained start cursors source
+same-later : (d : ℕ) (draws : Draws) (start : ℕ) (cursors : List OpCursor) (source : Slice) (xs ys : List Item) → d ≤ horizon → AreNested start cursors source
+    → AreDrained start cursors source
     → AreLateOps d (ops_of cursors) → HaveStop d (ops_of cursors) → IsLater d xs → IsLater d ys
     → to_come_from draws start cursors source xs ≡ to_come_from draws start cursors source ys
 same-later d draws start [] source xs ys fits nested drained from stop later_xs later_ys = absurd stop
 same-later d draws start (cursor ∷ cursors) source xs ys fits nested drained from stop later_xs later_ys =
     elim (stop-snoc d (ops_of cursors) cursor.op stop) [
-      | inl above ↦ ap (λ items. cursor_gives draws start cursor items) (same-later d draws cursor.stop cursors source xs ys fits nested.1 drained.2 split.0 above later_xs later_ys)
+      | inl above ↦ ap (λ items. cursor_gives draws start cursor items)
+          (same-later d draws cursor.stop cursors source xs ys fits nested.1 drained.2 split.0 above later_xs later_ys)
       | inr here ↦ cut here xs later_xs ∙ sym (cut here ys later_ys)
     ]
   where
     split : AreLateOps d (ops_of cursors) × IsLateOp d cursor.op
     split = each-snoc (IsLateOp d) (ops_of cursors) cursor.op from
 
-    cut : (here : IsStop d cursor.op) (items : List Item) → IsLater d items → to_come_from draws start (cursor ∷ cursors) source items ≡ final_of (stop-giving d cursor.op draws (nested.0.heard drained.1) here).0 ∷ []
+    cut : (here : IsStop d cursor.op) (items : List Item) → IsLater d items
+        → to_come_from draws start (cursor ∷ cursors) source items ≡ final_of (stop-giving d cursor.op draws (nested.0.heard drained.1) here).0 ∷ []
     cut here items later =
         let loud = nested.0.heard drained.1 in
         let gives = stop-giving d cursor.op draws loud here in
@@ -239,15 +254,19 @@ begins-in-time d position since (Quiet ∷ items) from stream = inr (ap (λ item
 
 -- what comes at or after the deadline to an idle runner changes nothing
 module _ (runner : RunnerView) (invariant : IsRunning runner) (idle : runner.idle ≡ true) where
-  past-running : (d position since : ℕ) (items : List Item) → runner.ending ≡ None → d ≤ horizon → deadline_of (ops_of runner.cursors) ≡ Some d → d ≤ since → IsStreamFrom position since items
+  past-running : (d position since : ℕ) (items : List Item) → runner.ending ≡ None → d ≤ horizon → deadline_of (ops_of runner.cursors) ≡ Some d → d ≤ since
+      → IsStreamFrom position since items
       → to_come runner items ≡ to_come runner (Quiet ∷ [])
   past-running d position since items running fits is from stream =
       let found = stop-deadline d (ops_of runner.cursors) is in
       let unfound : runner.lookahead ≡ None = idle-unfound runner invariant idle in
-      let nested : AreNested runner.position runner.cursors runner.piece = subst (λ found. AreNested (reader_at runner.position found) runner.cursors runner.piece) unfound (invariant.nested running) in
+      let nested : AreNested runner.position runner.cursors runner.piece =
+      subst (λ found. AreNested (reader_at runner.position found) runner.cursors runner.piece) unfound (invariant.nested running) in
       to_come-unfound runner items running unfound
-      ∙ same-later d (draws_of runner.drawing) runner.position runner.cursors runner.piece items (Quiet ∷ []) fits nested (idle-drained runner invariant idle running) found.0 found.1
-      (record { late = late-stream d position since items from stream; final = final_of_stream position since items stream }) (record { late = tt; final = refl })
+      ∙ same-later d (draws_of runner.drawing) runner.position runner.cursors runner.piece items (Quiet ∷ []) fits nested
+      (idle-drained runner invariant idle running) found.0 found.1
+      (record { late = late-stream d position since items from stream; final = final_of_stream position since items stream })
+      (record { late = tt; final = refl })
       ∙ sym (to_come-unfound runner (Quiet ∷ []) running unfound)
 
   pub past-deadline : (d position since : ℕ) (items : List Item) → deadline_of (ops_of runner.cursors) ≡ Some d → d ≤ since → IsStreamFrom position since items

@@ -1,5 +1,6 @@
 -- Slices that are given one after the other, and what they come to.
-use Rattle.std.proofs.Common.{◌≡◌, ℕ, zero, suc, ◌+◌, ◌-◌, ◌<◌, ◌≤◌, ◌^◌, List, [], ◌∷◌, ◌++◌, map, length, drop, get_or, add-one, drop-cons, replicate, None, refl, ap, ◌∙◌, sym, subst, arith, append_assoc}
+use Rattle.std.proofs.Common.{◌≡◌, ℕ, zero, suc, ◌+◌, ◌-◌, ◌<◌, ◌≤◌, ◌^◌, List, [], ◌∷◌, ◌++◌, map, length, drop, get_or, add-one, drop-cons, replicate, None}
+use Rattle.std.proofs.Common.{refl, ap, ◌∙◌, sym, subst, arith, append_assoc}
 use Rattle.std.specs.Prelude.{Any}
 use Rattle.std.proofs.lemmas.List.{append-nil, replicate-append-replicate}
 use Rattle.tox_time.specs.declared.streams.span.Span.{Span}
@@ -22,7 +23,8 @@ use Rattle.tox_plan.specs.Delivering.{PreservesOutput, stop_from, IsNextFor, End
 pub slices_table-append : (xs ys : List Slice) → slices_table (xs ++ ys) ≡ slices_table xs ++ slices_table ys
 slices_table-append [] ys = refl
 slices_table-append (x ∷ xs) ys =
-    ap (λ ts. replicate (span_len x.span) x.instant ++ ts) (slices_table-append xs ys) ∙ sym (append_assoc (replicate (span_len x.span) x.instant) (slices_table xs) (slices_table ys))
+    ap (λ ts. replicate (span_len x.span) x.instant ++ ts) (slices_table-append xs ys)
+    ∙ sym (append_assoc (replicate (span_len x.span) x.instant) (slices_table xs) (slices_table ys))
 
 pub reach-below : (start stop t : ℕ) (cuts : List Slice) → Reach start stop t cuts → start ≤ stop
 reach-below start stop t [] reach = omega (arith, reach)
@@ -48,15 +50,18 @@ ending-cuts (cut ∷ cuts) items = ending-cuts cuts items
 pub goes-same : (runner : RunnerView) (given : List Slice) (items : List Item) → PreservesOutput runner given items runner given items
 goes-same runner given items = record { tables = refl; endings = refl }
 
-pub goes-on : (a b c : RunnerView) (xs ys zs : List Slice) (us vs ws : List Item) → PreservesOutput a xs us b ys vs → PreservesOutput b ys vs c zs ws → PreservesOutput a xs us c zs ws
+pub goes-on : (a b c : RunnerView) (xs ys zs : List Slice) (us vs ws : List Item) → PreservesOutput a xs us b ys vs → PreservesOutput b ys vs c zs ws
+    → PreservesOutput a xs us c zs ws
 goes-on a b c xs ys zs us vs ws first second = record { tables = first.tables ∙ second.tables; endings = first.endings ∙ second.endings }
 
 -- a cut that is given is no longer to come
-pub goes-cut : (old new : RunnerView) (slice : Slice) (given : List Slice) (items : List Item) → IsCut old new slice → PreservesOutput old given items new (given ++ slice ∷ []) items
+pub goes-cut : (old new : RunnerView) (slice : Slice) (given : List Slice) (items : List Item) → IsCut old new slice
+    → PreservesOutput old given items new (given ++ slice ∷ []) items
 goes-cut old new slice given items cut =
     let part : List ℕ = replicate (span_len slice.span) slice.instant in
     let comes : table (to_come old items) ≡ part ++ table (to_come new items)
-    = ap table (cut.gives items) ∙ table-append (map as_chunk cut.cuts) (to_come new items) ∙ ap (λ ts. ts ++ table (to_come new items)) (table-cuts slice.span.start slice.span.stop slice.instant cut.cuts cut.parts) in
+    = ap table (cut.gives items) ∙ table-append (map as_chunk cut.cuts) (to_come new items)
+    ∙ ap (λ ts. ts ++ table (to_come new items)) (table-cuts slice.span.start slice.span.stop slice.instant cut.cuts cut.parts) in
     record {
       tables = ap (λ ts. slices_table given ++ ts) comes
           ∙ sym (append_assoc (slices_table given) part (table (to_come new items)))
@@ -70,7 +75,8 @@ stop_from-append position [] slice = refl
 stop_from-append position (first ∷ slices) slice = stop_from-append first.span.stop slices slice
 
 -- one more slice goes on with its neighbours
-pub neighbours-append : (items : List Item) (position : ℕ) (slices : List Slice) (slice : Slice) → AreNeighbours items position slices → slice.span.start ≡ stop_from position slices → slice.span.start < slice.span.stop → Any (LiesInChunk slice.span) items
+pub neighbours-append : (items : List Item) (position : ℕ) (slices : List Slice) (slice : Slice) → AreNeighbours items position slices
+    → slice.span.start ≡ stop_from position slices → slice.span.start < slice.span.stop → Any (LiesInChunk slice.span) items
     → AreNeighbours items position (slices ++ slice ∷ [])
 neighbours-append items position [] slice neighbours here some lies = (here, omega (arith, here, some), lies, tt)
 neighbours-append items position (first ∷ slices) slice neighbours here some lies =
@@ -91,7 +97,8 @@ pub any-itself : (items : List Item) (span : Span) (t : ℕ) → Any (λ other. 
 any-itself items span t among =
     (among.0, among.1, among.2, among.3, subst (λ item. LiesInChunk span item) (sym among.4) (omega arith, omega arith))
 
-at-arrival_list : (items : List Item) (k : ℕ) (d : Item) → k < length items → (k < length (arrival_list items)) × (get_or (arrival_list items) k d ≡ get_or items k d)
+at-arrival_list : (items : List Item) (k : ℕ) (d : Item) → k < length items
+    → (k < length (arrival_list items)) × (get_or (arrival_list items) k d ≡ get_or items k d)
 at-arrival_list [] k d within = absurd (omega (arith, within))
 at-arrival_list (Chunk span t ∷ items) zero d within = (omega arith, refl)
 at-arrival_list (Chunk span t ∷ items) (suc k) d within = let later = at-arrival_list items k d (omega (arith, within)) in (omega (arith, later.0), later.1)
@@ -133,11 +140,21 @@ ends_at runner (Closed t) items ahead = ahead.stream.2
 ends_at runner (Reset t) items ahead = ahead.stream.2
 ends_at runner Quiet items ahead = ahead.stream
 
-empty_ahead : (runner : RunnerView) (last : Slice) → last.span.stop ≤ 2 ^ 40 → runner.latest ≤ last.instant → (runner.ending ≡ None → StandsAt runner last) → IsAhead runner []
-empty_ahead runner last few latest stands = record { last = last; stream = refl; no_reset = λ reset. reset; few = omega (arith, few); latest = latest; stands = stands }
+empty_ahead : (runner : RunnerView) (last : Slice) → last.span.stop ≤ 2 ^ 40 → runner.latest ≤ last.instant → (runner.ending ≡ None → StandsAt runner last)
+    → IsAhead runner []
+empty_ahead runner last few latest stands = record {
+  last = last;
+  stream = refl;
+  no_reset = λ reset. reset;
+  few = omega (arith, few);
+  latest = latest;
+  stands =
+      stands;
+}
 
 -- the runner behind the next item
-pub ahead_next : (old new : RunnerView) (item : Item) (items : List Item) → IsAhead old (item ∷ items) → new.latest ≤ latest_from old.latest (item ∷ []) → (new.ending ≡ None → StandsBehind new item) → IsAhead new items
+pub ahead_next : (old new : RunnerView) (item : Item) (items : List Item) → IsAhead old (item ∷ items) → new.latest ≤ latest_from old.latest (item ∷ [])
+    → (new.ending ≡ None → StandsBehind new item) → IsAhead new items
 ahead_next old new (Chunk span t) items ahead latest stands = record {
   last = record { span = span; instant = t };
   stream = ahead.stream.4;
@@ -147,13 +164,16 @@ ahead_next old new (Chunk span t) items ahead latest stands = record {
   stands = stands;
 }
 ahead_next old new (Closed t) items ahead latest stands =
-    subst (λ items. IsAhead new items) (sym ahead.stream.2) (empty_ahead new (record { span = ahead.last.span; instant = t }) (omega (arith, ahead.few)) latest (λ none. absurd (stands none)))
+    subst (λ items. IsAhead new items) (sym ahead.stream.2) (empty_ahead new (record { span = ahead.last.span; instant = t }) (omega (arith, ahead.few)) latest
+    (λ none. absurd (stands none)))
 ahead_next old new (Reset t) items ahead latest stands = absurd (ahead.no_reset tt)
 ahead_next old new Quiet items ahead latest stands =
-    subst (λ items. IsAhead new items) (sym ahead.stream) (empty_ahead new (record { span = record { start = 0; stop = 0 }; instant = new.latest }) (omega arith) (omega arith) (λ none. absurd (stands none)))
+    subst (λ items. IsAhead new items) (sym ahead.stream) (empty_ahead new (record { span = record { start = 0; stop = 0 }; instant = new.latest })
+    (omega arith) (omega arith) (λ none. absurd (stands none)))
 
 -- a stored arrival list goes on from its first position
-pub stored_ahead : (runner : RunnerView) (items : List Item) → IsStreamFrom 0 0 (arrival_list items) → (HasReset (arrival_list items) → ⊥) → arrived items ≤ 2 ^ 40 → runner.latest ≡ 0 → runner.piece ≡ no_piece → IsAhead runner items
+pub stored_ahead : (runner : RunnerView) (items : List Item) → IsStreamFrom 0 0 (arrival_list items) → (HasReset (arrival_list items) → ⊥)
+    → arrived items ≤ 2 ^ 40 → runner.latest ≡ 0 → runner.piece ≡ no_piece → IsAhead runner items
 stored_ahead runner items stream no_reset few latest piece = record {
   last = no_piece;
   stream = stream;
@@ -178,14 +198,17 @@ table-final (ClosedAt t) = refl
 table-final (ResetAt t) = refl
 
 -- all slices were given, and the ending alone is to come
-pub outcome_of : (first runner : RunnerView) (items all : List Item) (outcome : Outcome) → PreservesOutput first [] all runner outcome.slices items → to_come runner items ≡ final_of outcome.ending ∷ [] → (flow : List Item) → to_come first all ≡ flow → IsOutcomeOf flow outcome
+pub outcome_of : (first runner : RunnerView) (items all : List Item) (outcome : Outcome) → PreservesOutput first [] all runner outcome.slices items
+    → to_come runner items ≡ final_of outcome.ending ∷ [] → (flow : List Item) → to_come first all ≡ flow → IsOutcomeOf flow outcome
 outcome_of first runner items all outcome goes last flow is = record {
-  tables = sym (append-nil (slices_table outcome.slices)) ∙ ap (λ ts. slices_table outcome.slices ++ ts) (sym (table-final outcome.ending)) ∙ ap (λ items. slices_table outcome.slices ++ table items) (sym last) ∙ sym goes.tables ∙ ap table is;
+  tables = sym (append-nil (slices_table outcome.slices)) ∙ ap (λ ts. slices_table outcome.slices ++ ts) (sym (table-final outcome.ending))
+      ∙ ap (λ items. slices_table outcome.slices ++ table items) (sym last) ∙ sym goes.tables ∙ ap table is;
   endings = ending-final outcome.ending ∙ ap ending (sym last) ∙ sym goes.endings ∙ ap ending is;
 }
 
 -- neighbours among the stored items are neighbours in the arrival list
-pub neighbours-stored : (items : List Item) (position : ℕ) (slices : List Slice) → AreNeighbours items position slices → AreNeighbours (arrival_list items) position slices
+pub neighbours-stored : (items : List Item) (position : ℕ) (slices : List Slice) → AreNeighbours items position slices
+    → AreNeighbours (arrival_list items) position slices
 neighbours-stored items position [] neighbours = tt
 neighbours-stored items position (slice ∷ slices) neighbours =
     (neighbours.0, neighbours.1, any-stored (LiesInChunk slice.span) items neighbours.2, neighbours-stored items slice.span.stop slices neighbours.3)

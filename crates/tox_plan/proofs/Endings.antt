@@ -30,12 +30,15 @@ pub giving-final : (op : Op) (draws : Draws) (state : State) (end : Ending) → 
 giving-final op draws state end = (ending (op_giving op (λ _ _. 0) state (final_of end)), gives-final op draws state end)
 
 -- an ending passes through
-pub drained-final : (draws : Draws) (start : ℕ) (cursors : List OpCursor) (source : Slice) (end : Ending) → AreNested start cursors source → AreDrained start cursors source
+pub drained-final : (draws : Draws) (start : ℕ) (cursors : List OpCursor) (source : Slice) (end : Ending) → AreNested start cursors source
+    → AreDrained start cursors source
     → (last : Ending) × (to_come_from draws start cursors source (final_of end ∷ []) ≡ final_of last ∷ [])
 drained-final draws start [] source end nested drained = (end, to_come_from-read draws start source (final_of end ∷ []) drained)
 drained-final draws start (cursor ∷ cursors) source end nested drained =
-    let before : (last : Ending) × (to_come_from draws cursor.stop cursors source (final_of end ∷ []) ≡ final_of last ∷ []) = drained-final draws cursor.stop cursors source end nested.1 drained.2 in
-    let after : (last : Ending) × (op_giving cursor.op draws cursor.state (final_of before.0) ≡ final_of last ∷ []) = giving-final cursor.op draws cursor.state before.0 in (
+    let before : (last : Ending) × (to_come_from draws cursor.stop cursors source (final_of end ∷ []) ≡ final_of last ∷ []) =
+    drained-final draws cursor.stop cursors source end nested.1 drained.2 in
+    let after : (last : Ending) × (op_giving cursor.op draws cursor.state (final_of before.0) ≡ final_of last ∷ []) =
+    giving-final cursor.op draws cursor.state before.0 in (
       after.0,
       ap (λ items. cursor_gives draws start cursor items) before.1
           ∙ cursor_gives-final draws start cursor before.0 after.0 drained.0 drained.1 (nested.0.sound.running drained.1) after.1,

@@ -1,5 +1,6 @@
 -- By when streams have ended behind operations.
-use Rattle.std.proofs.Common.{◌≡◌, ℕ, zero, suc, ◌+◌, ◌-◌, ◌*◌, ◌%◌, ◌<◌, ◌≤◌, min, max, Bool, true, false, List, [], ◌∷◌, ◌++◌, Option, Some, None, refl, arith, ◌⊎◌, inl, inr, if◌then◌else◌}
+use Rattle.std.proofs.Common.{◌≡◌, ℕ, zero, suc, ◌+◌, ◌-◌, ◌*◌, ◌%◌, ◌<◌, ◌≤◌, min, max, Bool, true, false, List, [], ◌∷◌, ◌++◌, Option, Some, None, refl}
+use Rattle.std.proofs.Common.{arith, ◌⊎◌, inl, inr, if◌then◌else◌}
 use Rattle.std.specs.Prelude.{nat_lt, All, fold}
 use Rattle.std.proofs.lemmas.Bool.{ltb-true, ltb-false}
 use Rattle.std.proofs.lemmas.List.Elements.{All-head, All-tail}
@@ -63,33 +64,64 @@ steps-end bound reaction answer items (inr ended) others = EndsBy-append bound a
 
 -- what ends a list item by item ends it whole
 module _ (P : Item → Type 0) (bound : ℕ) (reaction : Reaction)
-    (at_chunk : (previous chunks pieces passed : ℕ) (span : Span) (t : ℕ) → previous ≤ bound → P (Chunk span t) → StepsBy bound (reaction (open_state previous chunks pieces passed) (Chunk span t)))
-    (at_final : (previous chunks pieces passed : ℕ) (item : Item) → previous ≤ bound → is_final item ≡ true → P item → EndsBy bound (reaction (open_state previous chunks pieces passed) item).given) where
-  EndsBy-flow_from : (items : List Item) (previous chunks pieces passed : ℕ) → previous ≤ bound → EachToFinal P items → EndsBy bound (flow_from reaction (open_state previous chunks pieces passed) items)
+    (at_chunk : (previous chunks pieces passed : ℕ) (span : Span) (t : ℕ) → previous ≤ bound → P (Chunk span t)
+    → StepsBy bound (reaction (open_state previous chunks pieces passed) (Chunk span t)))
+    (at_final : (previous chunks pieces passed : ℕ) (item : Item) → previous ≤ bound → is_final item ≡ true → P item
+    → EndsBy bound (reaction (open_state previous chunks pieces passed) item).given) where
+  EndsBy-flow_from : (items : List Item) (previous chunks pieces passed : ℕ) → previous ≤ bound → EachToFinal P items
+      → EndsBy bound (flow_from reaction (open_state previous chunks pieces passed) items)
   EndsBy-flow_from [] previous chunks pieces passed order each = absurd each
   EndsBy-flow_from (Chunk span t ∷ items) previous chunks pieces passed order each =
-      steps-end bound reaction (reaction (open_state previous chunks pieces passed) (Chunk span t)) items (at_chunk previous chunks pieces passed span t order each.0)
+      steps-end bound reaction (reaction (open_state previous chunks pieces passed) (Chunk span t)) items
+      (at_chunk previous chunks pieces passed span t order each.0)
       (λ previous' chunks' pieces' passed' order'. EndsBy-flow_from items previous' chunks' pieces' passed' order' each.1)
-  EndsBy-flow_from (Closed t ∷ items) previous chunks pieces passed order each = EndsBy-append bound (reaction (open_state previous chunks pieces passed) (Closed t)).given _ (at_final previous chunks pieces passed (Closed t) order refl each)
-  EndsBy-flow_from (Reset t ∷ items) previous chunks pieces passed order each = EndsBy-append bound (reaction (open_state previous chunks pieces passed) (Reset t)).given _ (at_final previous chunks pieces passed (Reset t) order refl each)
-  EndsBy-flow_from (Quiet ∷ items) previous chunks pieces passed order each = EndsBy-append bound (reaction (open_state previous chunks pieces passed) Quiet).given _ (at_final previous chunks pieces passed Quiet order refl each)
+  EndsBy-flow_from (Closed t ∷ items) previous chunks pieces passed order each =
+      EndsBy-append bound (reaction (open_state previous chunks pieces passed) (Closed t)).given _
+      (at_final previous chunks pieces passed (Closed t) order refl each)
+  EndsBy-flow_from (Reset t ∷ items) previous chunks pieces passed order each =
+      EndsBy-append bound (reaction (open_state previous chunks pieces passed) (Reset t)).given _
+      (at_final previous chunks pieces passed (Reset t) order refl each)
+  EndsBy-flow_from (Quiet ∷ items) previous chunks pieces passed order each =
+      EndsBy-append bound (reaction (open_state previous chunks pieces passed) Quiet).given _ (at_final previous chunks pieces passed Quiet order refl each)
 
 -- a chunk alone
-one_chunk : (bound previous chunks pieces passed : ℕ) (span : Span) (t : ℕ) → t ≤ bound → StepsBy bound (answer_of (open_state previous chunks pieces passed) (Chunk span t) (Chunk span t ∷ []))
+one_chunk : (bound previous chunks pieces passed : ℕ) (span : Span) (t : ℕ) → t ≤ bound
+    → StepsBy bound (answer_of (open_state previous chunks pieces passed) (Chunk span t) (Chunk span t ∷ []))
 one_chunk bound previous chunks pieces passed span t by_then =
     inl (record { span = span; instant = t; chunks = _; pieces = _; passed = _; by_then = by_then; given = refl; state = refl })
 
 -- a delayed chunk leaves by its wait past the instant
 module _ (due wait : ℕ) (waits : ℕ → ℕ) (within : (chunk : ℕ) → waits chunk ≤ wait) (fits : IsInstant due) (from until : ℕ) where
   delay_chunk : (outside : Bool) (previous chunks pieces passed : ℕ) (span : Span) (t : ℕ) → previous ≤ plus due wait → t ≤ due
-      → StepsBy (plus due wait) (if outside then uncounted_answer (open_state previous chunks pieces passed) (Chunk span t) else counted (delay_gives waits) (open_state previous chunks pieces passed) (Chunk span t))
+      → StepsBy (plus due wait) (if outside then uncounted_answer (open_state previous chunks pieces passed) (Chunk span t) else counted (delay_gives waits)
+      (open_state previous chunks pieces passed) (Chunk span t))
   delay_chunk true previous chunks pieces passed span t order by_then =
-      inl (record { span = span; instant = max previous t; chunks = _; pieces = _; passed = _; by_then = omega (arith, order, by_then, fits); given = refl; state = refl })
+      inl (record {
+        span = span;
+        instant = max previous t;
+        chunks = _;
+        pieces = _;
+        passed = _;
+        by_then = omega (arith, order, by_then, fits);
+        given = refl;
+        state = refl;
+      })
   delay_chunk false previous chunks pieces passed span t order by_then =
       let bounded : waits chunks ≤ wait = within chunks in
-      inl (record { span = span; instant = max previous (plus t (waits chunks)); chunks = _; pieces = _; passed = _; by_then = omega (arith, order, by_then, bounded); given = refl; state = refl })
+      inl (record {
+        span = span;
+        instant = max previous (plus t (waits chunks));
+        chunks = _;
+        pieces = _;
+        passed = _;
+        by_then =
+            omega (arith, order, by_then, bounded);
+        given = refl;
+        state = refl;
+      })
 
-  delay_final : (previous chunks pieces passed : ℕ) (item : Item) → previous ≤ plus due wait → is_final item ≡ true → LeavesBy due item → EndsBy (plus due wait) (during from until (counted (delay_gives waits)) (open_state previous chunks pieces passed) item).given
+  delay_final : (previous chunks pieces passed : ℕ) (item : Item) → previous ≤ plus due wait → is_final item ≡ true → LeavesBy due item
+      → EndsBy (plus due wait) (during from until (counted (delay_gives waits)) (open_state previous chunks pieces passed) item).given
   delay_final previous chunks pieces passed (Chunk span t) order final by_then = absurd (cc)
   delay_final previous chunks pieces passed (Closed t) order final by_then = rw (is_outside-final from until (ClosedAt t)) (omega (arith, order, by_then, fits))
   delay_final previous chunks pieces passed (Reset t) order final by_then = rw (is_outside-final from until (ResetAt t)) (omega (arith, order, by_then, fits))
@@ -98,14 +130,16 @@ module _ (due wait : ℕ) (waits : ℕ → ℕ) (within : (chunk : ℕ) → wait
   delay_ends : (items : List Item) → EndsBy due items → EndsBy (plus due wait) (flow (during from until (counted (delay_gives waits))) items)
   delay_ends items ends =
       EndsBy-flow_from (LeavesBy due) (plus due wait) (during from until (counted (delay_gives waits)))
-      (λ previous chunks pieces passed span t order by_then. delay_chunk (is_outside from until (Chunk span t)) previous chunks pieces passed span t order by_then)
+      (λ previous chunks pieces passed span t order by_then. delay_chunk (is_outside from until (Chunk span t)) previous chunks pieces passed span t order
+      by_then)
       delay_final items 0 0 0 0 (omega arith) ends
 
 varied-below : (middle variation word : ℕ) → varied middle variation word ≤ middle + variation
 varied-below middle variation word =
     let below : word % (2 * variation + 1) < 2 * variation + 1 = mod-lt word (omega arith) in omega (arith, below)
 
-pub delay-ends : (due fixed latency jitter lane until from : ℕ) → EndsBehind (Delay fixed latency jitter lane until from) (Some due) (Some (plus due (1000 * (fixed + latency + jitter))))
+pub delay-ends : (due fixed latency jitter lane until from : ℕ) → EndsBehind (Delay fixed latency jitter lane until from) (Some due)
+    (Some (plus due (1000 * (fixed + latency + jitter))))
 delay-ends due fixed latency jitter lane until from draws items stream ends = (
   omega arith,
   delay_ends due (1000 * (fixed + latency + jitter)) (λ chunk. 1000 * (fixed + varied latency jitter (draws lane (1 + chunk))))
@@ -114,17 +148,21 @@ delay-ends due fixed latency jitter lane until from draws items stream ends = (
 
 -- a close leaves later
 module _ (due millis : ℕ) (fits : IsInstant due) (draws : Draws) where
-  slow_chunk : (previous chunks pieces passed : ℕ) (span : Span) (t : ℕ) → previous ≤ plus due (1000 * millis) → t ≤ due → StepsBy (plus due (1000 * millis)) (op_reaction (Slow millis) draws (open_state previous chunks pieces passed) (Chunk span t))
-  slow_chunk previous chunks pieces passed span t order by_then = one_chunk (plus due (1000 * millis)) previous chunks pieces passed span t (omega (arith, by_then, fits))
+  slow_chunk : (previous chunks pieces passed : ℕ) (span : Span) (t : ℕ) → previous ≤ plus due (1000 * millis) → t ≤ due
+      → StepsBy (plus due (1000 * millis)) (op_reaction (Slow millis) draws (open_state previous chunks pieces passed) (Chunk span t))
+  slow_chunk previous chunks pieces passed span t order by_then = one_chunk (plus due (1000 * millis)) previous chunks pieces passed span t
+      (omega (arith, by_then, fits))
 
-  slow_final : (previous chunks pieces passed : ℕ) (item : Item) → previous ≤ plus due (1000 * millis) → is_final item ≡ true → LeavesBy due item → EndsBy (plus due (1000 * millis)) (op_reaction (Slow millis) draws (open_state previous chunks pieces passed) item).given
+  slow_final : (previous chunks pieces passed : ℕ) (item : Item) → previous ≤ plus due (1000 * millis) → is_final item ≡ true → LeavesBy due item
+      → EndsBy (plus due (1000 * millis)) (op_reaction (Slow millis) draws (open_state previous chunks pieces passed) item).given
   slow_final previous chunks pieces passed (Chunk span t) order final by_then = absurd (cc)
   slow_final previous chunks pieces passed (Closed t) order final by_then = omega (arith, by_then)
   slow_final previous chunks pieces passed (Reset t) order final by_then = omega (arith, by_then, fits)
   slow_final previous chunks pieces passed Quiet order final by_then = absurd by_then
 
   slow_ends : (items : List Item) → EndsBy due items → EndsBy (plus due (1000 * millis)) (flow (op_reaction (Slow millis) draws) items)
-  slow_ends items ends = EndsBy-flow_from (LeavesBy due) (plus due (1000 * millis)) (op_reaction (Slow millis) draws) slow_chunk slow_final items 0 0 0 0 (omega arith) ends
+  slow_ends items ends = EndsBy-flow_from (LeavesBy due) (plus due (1000 * millis)) (op_reaction (Slow millis) draws) slow_chunk slow_final items 0 0 0 0
+      (omega arith) ends
 
 pub slow-ends : (due millis : ℕ) → EndsBehind (Slow millis) (Some due) (Some (plus due (1000 * millis)))
 slow-ends due millis draws items stream ends = (omega arith, slow_ends due millis ends.0 draws items ends.1)
@@ -142,11 +180,13 @@ module _ (instant bound : ℕ) (P : Item → Type 0) (draws : Draws)
   cut_chunk true previous chunks pieces passed span t is cuts = one_chunk bound previous chunks pieces passed span t (cuts.0 (ltb-true t instant is))
   cut_chunk false previous chunks pieces passed span t is cuts = inr (cuts.1 (ltb-false t instant is))
 
-  cut_last : (early : Bool) (item : Item) (t : ℕ) → nat_lt t instant ≡ early → CutsBy instant bound t → (t ≤ bound → EndsBy bound (item ∷ [])) → EndsBy bound ((if early then item else Reset instant) ∷ [])
+  cut_last : (early : Bool) (item : Item) (t : ℕ) → nat_lt t instant ≡ early → CutsBy instant bound t → (t ≤ bound → EndsBy bound (item ∷ []))
+      → EndsBy bound ((if early then item else Reset instant) ∷ [])
   cut_last true item t is cuts ends = ends (cuts.0 (ltb-true t instant is))
   cut_last false item t is cuts ends = cuts.1 (ltb-false t instant is)
 
-  cut_final : (previous chunks pieces passed : ℕ) (item : Item) → previous ≤ bound → is_final item ≡ true → P item → EndsBy bound (op_reaction (Cutoff instant) draws (open_state previous chunks pieces passed) item).given
+  cut_final : (previous chunks pieces passed : ℕ) (item : Item) → previous ≤ bound → is_final item ≡ true → P item
+      → EndsBy bound (op_reaction (Cutoff instant) draws (open_state previous chunks pieces passed) item).given
   cut_final previous chunks pieces passed (Chunk span t) order final fits = absurd (cc)
   cut_final previous chunks pieces passed (Closed t) order final fits = cut_last (nat_lt t instant) (Closed t) t refl (closed t fits) (λ by_then. by_then)
   cut_final previous chunks pieces passed (Reset t) order final fits = cut_last (nat_lt t instant) (Reset t) t refl (reset t fits) (λ by_then. by_then)
@@ -167,11 +207,19 @@ each-stream (Reset t ∷ items) position since stream = tt
 each-stream (Quiet ∷ items) position since stream = tt
 
 pub cutoff-ends : (instant : ℕ) (before : Option ℕ) → IsInstant instant → EndsBehind (Cutoff instant) before (earlier instant before)
-cutoff-ends instant None fits draws items stream ends =
-    (fits, cut_ends instant instant (λ _. Unit {0}) draws (λ span t _. (λ early. omega (arith, early), λ late. omega arith)) (λ t _. (λ early. omega (arith, early), λ late. omega arith)) (λ t _. (λ early. omega (arith, early), λ late. omega arith)) (λ _. omega arith) items (each-stream items 0 0 stream))
+cutoff-ends instant None fits draws items stream ends = (
+  fits,
+  cut_ends instant instant (λ _. Unit {0}) draws (λ span t _. (λ early. omega (arith, early), λ late. omega arith))
+      (λ t _. (λ early. omega (arith, early), λ late. omega arith)) (λ t _. (λ early. omega (arith, early), λ late. omega arith)) (λ _. omega arith) items
+      (each-stream items 0 0 stream),
+)
 cutoff-ends instant (Some due) fits draws items stream ends =
-    let cuts : (t : ℕ) → t ≤ due → CutsBy instant (min instant due) t = λ t by_then. (λ early. omega (arith, early, by_then), λ late. omega (arith, late, by_then)) in
-    (omega (arith, fits), cut_ends instant (min instant due) (LeavesBy due) draws (λ span t by_then. cuts t by_then) cuts cuts (λ never. absurd never) items ends.1)
+    let cuts : (t : ℕ) → t ≤ due → CutsBy instant (min instant due) t = λ t by_then.
+    (λ early. omega (arith, early, by_then), λ late. omega (arith, late, by_then)) in (
+      omega (arith, fits),
+      cut_ends instant (min instant due) (LeavesBy due) draws (λ span t by_then. cuts t by_then) cuts cuts (λ never. absurd never) items
+          ends.1,
+    )
 
 -- the first bytes of a chunk, and an ending by then
 first_bytes-end : (bound n : ℕ) (span : Span) (t : ℕ) (rest : List Item) → t ≤ bound → EndsBy bound rest → EndsBy bound (first_bytes n span t ++ rest)
@@ -179,17 +227,23 @@ first_bytes-end bound zero span t rest by_then ends = ends
 first_bytes-end bound (suc n) span t rest by_then ends = (by_then, ends)
 
 -- a chunk that an ending may follow after so many bytes
-bytes_chunk : (bound bytes : ℕ) (ending_at : ℕ → Ending) (fewer : Bool) (previous chunks pieces passed : ℕ) (span : Span) (t : ℕ) → t ≤ bound → EndsBy bound (final_of (ending_at t) ∷ [])
-    → StepsBy bound (answer_of (open_state previous chunks pieces passed) (Chunk span t) (if fewer then Chunk span t ∷ [] else (first_bytes (bytes - passed) span t ++ (final_of (ending_at t) ∷ []))))
+bytes_chunk : (bound bytes : ℕ) (ending_at : ℕ → Ending) (fewer : Bool) (previous chunks pieces passed : ℕ) (span : Span) (t : ℕ) → t ≤ bound
+    → EndsBy bound (final_of (ending_at t) ∷ [])
+    → StepsBy bound (answer_of (open_state previous chunks pieces passed) (Chunk span t)
+    (if fewer then Chunk span t ∷ [] else (first_bytes (bytes - passed) span t ++ (final_of (ending_at t) ∷ []))))
 bytes_chunk bound bytes ending_at true previous chunks pieces passed span t by_then ends = one_chunk bound previous chunks pieces passed span t by_then
-bytes_chunk bound bytes ending_at false previous chunks pieces passed span t by_then ends = inr (first_bytes-end bound (bytes - passed) span t (final_of (ending_at t) ∷ []) by_then ends)
+bytes_chunk bound bytes ending_at false previous chunks pieces passed span t by_then ends =
+    inr (first_bytes-end bound (bytes - passed) span t (final_of (ending_at t) ∷ []) by_then ends)
 
 -- a limit closes no later than its last chunk
 module _ (due bytes : ℕ) (draws : Draws) where
-  limit_chunk : (previous chunks pieces passed : ℕ) (span : Span) (t : ℕ) → previous ≤ due → t ≤ due → StepsBy due (op_reaction (Limit bytes) draws (open_state previous chunks pieces passed) (Chunk span t))
-  limit_chunk previous chunks pieces passed span t order by_then = bytes_chunk due bytes (λ t. ClosedAt t) (nat_lt (span_len span) (bytes - passed)) previous chunks pieces passed span t by_then by_then
+  limit_chunk : (previous chunks pieces passed : ℕ) (span : Span) (t : ℕ) → previous ≤ due → t ≤ due
+      → StepsBy due (op_reaction (Limit bytes) draws (open_state previous chunks pieces passed) (Chunk span t))
+  limit_chunk previous chunks pieces passed span t order by_then = bytes_chunk due bytes (λ t. ClosedAt t) (nat_lt (span_len span) (bytes - passed)) previous
+      chunks pieces passed span t by_then by_then
 
-  limit_final : (previous chunks pieces passed : ℕ) (item : Item) → previous ≤ due → is_final item ≡ true → LeavesBy due item → EndsBy due (op_reaction (Limit bytes) draws (open_state previous chunks pieces passed) item).given
+  limit_final : (previous chunks pieces passed : ℕ) (item : Item) → previous ≤ due → is_final item ≡ true → LeavesBy due item
+      → EndsBy due (op_reaction (Limit bytes) draws (open_state previous chunks pieces passed) item).given
   limit_final previous chunks pieces passed (Chunk span t) order final by_then = absurd (cc)
   limit_final previous chunks pieces passed (Closed t) order final by_then = by_then
   limit_final previous chunks pieces passed (Reset t) order final by_then = by_then
@@ -202,20 +256,25 @@ pub limit-ends : (due bytes : ℕ) → EndsBehind (Limit bytes) (Some due) (Some
 limit-ends due bytes draws items stream ends = (ends.0, limit_ends due bytes draws items ends.1)
 
 -- a halt raises its ending to the item at which it begins
-module _ (due bound : ℕ) (within : due ≤ bound) (at : Option ℕ) (after : ℕ) (end : Ending) (raises : (t : ℕ) → t ≤ due → EndsBy bound (final_of (raised end t) ∷ [])) (draws : Draws) where
+module _ (due bound : ℕ) (within : due ≤ bound) (at : Option ℕ) (after : ℕ) (end : Ending)
+    (raises : (t : ℕ) → t ≤ due → EndsBy bound (final_of (raised end t) ∷ [])) (draws : Draws) where
   after_chunk : (after previous chunks pieces passed : ℕ) (span : Span) (t : ℕ) → t ≤ due
-      → StepsBy bound (answer_of (open_state previous chunks pieces passed) (Chunk span t) (halt_after after end (open_state previous chunks pieces passed) (Chunk span t)))
+      → StepsBy bound (answer_of (open_state previous chunks pieces passed) (Chunk span t)
+      (halt_after after end (open_state previous chunks pieces passed) (Chunk span t)))
   after_chunk zero previous chunks pieces passed span t by_then = one_chunk bound previous chunks pieces passed span t (omega (arith, within, by_then))
   after_chunk (suc bytes) previous chunks pieces passed span t by_then =
-      bytes_chunk bound (suc bytes) (raised end) (nat_lt (span_len span) (suc bytes - passed)) previous chunks pieces passed span t (omega (arith, within, by_then)) (raises t by_then)
+      bytes_chunk bound (suc bytes) (raised end) (nat_lt (span_len span) (suc bytes - passed)) previous chunks pieces passed span t
+      (omega (arith, within, by_then)) (raises t by_then)
 
   before_chunk : (at : ℕ) (early : Bool) (previous chunks pieces passed : ℕ) (span : Span) (t : ℕ) → nat_lt t at ≡ early → t ≤ due
-      → StepsBy bound (answer_of (open_state previous chunks pieces passed) (Chunk span t) (if early then halt_after after end (open_state previous chunks pieces passed) (Chunk span t) else (final_of (raised end at) ∷ [])))
+      → StepsBy bound (answer_of (open_state previous chunks pieces passed) (Chunk span t)
+      (if early then halt_after after end (open_state previous chunks pieces passed) (Chunk span t) else (final_of (raised end at) ∷ [])))
   before_chunk at true previous chunks pieces passed span t is by_then = after_chunk after previous chunks pieces passed span t by_then
   before_chunk at false previous chunks pieces passed span t is by_then = let late = ltb-false t at is in inr (raises at (omega (arith, late, by_then)))
 
   halt_chunk : (at : Option ℕ) (previous chunks pieces passed : ℕ) (span : Span) (t : ℕ) → t ≤ due
-      → StepsBy bound (answer_of (open_state previous chunks pieces passed) (Chunk span t) (halt_gives at after end (open_state previous chunks pieces passed) (Chunk span t)))
+      → StepsBy bound (answer_of (open_state previous chunks pieces passed) (Chunk span t)
+      (halt_gives at after end (open_state previous chunks pieces passed) (Chunk span t)))
   halt_chunk None previous chunks pieces passed span t by_then = after_chunk after previous chunks pieces passed span t by_then
   halt_chunk (Some at) previous chunks pieces passed span t by_then = before_chunk at (nat_lt t at) previous chunks pieces passed span t refl by_then
 
@@ -227,16 +286,19 @@ module _ (due bound : ℕ) (within : due ≤ bound) (at : Option ℕ) (after : �
   after_reset zero state t by_then = omega (arith, within, by_then)
   after_reset (suc bytes) state t by_then = omega (arith, within, by_then)
 
-  before_final : (at t : ℕ) (early : Bool) (given : List Item) → nat_lt t at ≡ early → t ≤ due → EndsBy bound given → EndsBy bound (if early then given else (final_of (raised end at) ∷ []))
+  before_final : (at t : ℕ) (early : Bool) (given : List Item) → nat_lt t at ≡ early → t ≤ due → EndsBy bound given
+      → EndsBy bound (if early then given else (final_of (raised end at) ∷ []))
   before_final at t true given is by_then ends = ends
   before_final at t false given is by_then ends = let late = ltb-false t at is in raises at (omega (arith, late, by_then))
 
   halt_final : (at : Option ℕ) (state : State) (item : Item) → is_final item ≡ true → LeavesBy due item → EndsBy bound (halt_gives at after end state item)
   halt_final at state (Chunk span t) final by_then = absurd (cc)
   halt_final None state (Closed t) final by_then = after_closed after state t by_then
-  halt_final (Some at) state (Closed t) final by_then = before_final at t (nat_lt t at) (halt_after after end state (Closed t)) refl by_then (after_closed after state t by_then)
+  halt_final (Some at) state (Closed t) final by_then = before_final at t (nat_lt t at) (halt_after after end state (Closed t)) refl by_then
+      (after_closed after state t by_then)
   halt_final None state (Reset t) final by_then = after_reset after state t by_then
-  halt_final (Some at) state (Reset t) final by_then = before_final at t (nat_lt t at) (halt_after after end state (Reset t)) refl by_then (after_reset after state t by_then)
+  halt_final (Some at) state (Reset t) final by_then = before_final at t (nat_lt t at) (halt_after after end state (Reset t)) refl by_then
+      (after_reset after state t by_then)
   halt_final at state Quiet final by_then = absurd by_then
 
   halt_ends : (items : List Item) → EndsBy due items → EndsBy bound (flow (op_reaction (Halt at after end) draws) items)
@@ -256,12 +318,15 @@ halt-resets due at after end fits draws items stream ends =
 
 -- what is known behind each operation is known behind all
 module _ (behind : Option ℕ → Op → Option ℕ) (ends : (due : Option ℕ) (op : Op) → IsOp op → EndsBehind op due (behind due op)) (draws : Draws) where
-  MayEndBy-flow_through : (ops : List Op) (due : Option ℕ) (items : List Item) → All IsOp ops → IsStream items → MayEndBy due items → MayEndBy (fold behind due ops) (flow_through (op_reactions ops draws) items)
+  MayEndBy-flow_through : (ops : List Op) (due : Option ℕ) (items : List Item) → All IsOp ops → IsStream items → MayEndBy due items
+      → MayEndBy (fold behind due ops) (flow_through (op_reactions ops draws) items)
   MayEndBy-flow_through [] due items fit stream ended = ended
   MayEndBy-flow_through (op ∷ ops) due items fit stream ended =
       let here : IsOp op = All-head IsOp op ops fit in
-      MayEndBy-flow_through ops (behind due op) (flow (op_reaction op draws) items) (All-tail IsOp op ops fit) (IsStream-op_flow op draws items here stream) (ends due op here draws items stream ended)
+      MayEndBy-flow_through ops (behind due op) (flow (op_reaction op draws) items) (All-tail IsOp op ops fit) (IsStream-op_flow op draws items here stream)
+      (ends due op here draws items stream ended)
 
 -- so every stream under a plan ends by the instant that the operations lead to, one after the other
-pub EndsEachStream-fold : (behind : Option ℕ → Op → Option ℕ) → ((due : Option ℕ) (op : Op) → IsOp op → EndsBehind op due (behind due op)) → (ops : List Op) → EndsEachStream ops (fold behind None ops)
+pub EndsEachStream-fold : (behind : Option ℕ → Op → Option ℕ) → ((due : Option ℕ) (op : Op) → IsOp op → EndsBehind op due (behind due op)) → (ops : List Op)
+    → EndsEachStream ops (fold behind None ops)
 EndsEachStream-fold behind ends ops lanes words items fit stream = MayEndBy-flow_through behind ends (draw_in lanes words) ops None items fit stream tt

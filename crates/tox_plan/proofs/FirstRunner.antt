@@ -36,11 +36,14 @@ module _ (ops : List Op) (drawing : DrawingView) (known : Option Ending) where
     pieces = 0;
   }
 
-  known_at_start : (ending : Option Ending) → known ≡ ending → MatchOption known (AreDrained 0 (cursors_at_start ops) no_piece) (OnlyEnds (draws_of drawing) 0 (cursors_at_start ops) no_piece) → known ≡ None → AreDrained 0 (cursors_at_start ops) no_piece
+  known_at_start : (ending : Option Ending) → known ≡ ending → MatchOption known (AreDrained 0 (cursors_at_start ops) no_piece)
+      (OnlyEnds (draws_of drawing) 0 (cursors_at_start ops) no_piece) → known ≡ None → AreDrained 0 (cursors_at_start ops) no_piece
   known_at_start None is drained none = rw is at drained
-  known_at_start (Some ending) is drained none = absurd (let both : is_some known ≡ true = rw is refl in let open_yet : is_some known ≡ false = ap is_some none in cc)
+  known_at_start (Some ending) is drained none = absurd (let both : is_some known ≡ true = rw is refl in let open_yet : is_some known ≡ false =
+      ap is_some none in cc)
 
-  pub IsRunning-first : All IsOp ops → length ops ≤ 32 → MatchOption known (AreDrained 0 (cursors_at_start ops) no_piece) (OnlyEnds (draws_of drawing) 0 (cursors_at_start ops) no_piece) → (IsSome known → HaveEnded (cursors_at_start ops)) → IsRunning first_runner
+  pub IsRunning-first : All IsOp ops → length ops ≤ 32 → MatchOption known (AreDrained 0 (cursors_at_start ops) no_piece)
+      (OnlyEnds (draws_of drawing) 0 (cursors_at_start ops) no_piece) → (IsSome known → HaveEnded (cursors_at_start ops)) → IsRunning first_runner
   IsRunning-first fit few knows kept = record {
     nested = λ _. nested-at_start ops fit;
     drained = λ read none. known_at_start known refl knows none;
@@ -60,14 +63,16 @@ module _ (ops : List Op) (drawing : DrawingView) (known : Option Ending) where
     looked = λ some. omega arith;
   }
 
-  means_by : (ending : Option Ending) → known ≡ ending → All IsOp ops → MatchOption known (AreDrained 0 (cursors_at_start ops) no_piece) (OnlyEnds (draws_of drawing) 0 (cursors_at_start ops) no_piece) → (items : List Item) → IsStream items
+  means_by : (ending : Option Ending) → known ≡ ending → All IsOp ops → MatchOption known (AreDrained 0 (cursors_at_start ops) no_piece)
+      (OnlyEnds (draws_of drawing) 0 (cursors_at_start ops) no_piece) → (items : List Item) → IsStream items
       → to_come first_runner items ≡ flow_through (op_reactions ops (draws_of drawing)) items
   means_by None is fit knows items stream = to_come-unfound first_runner items is refl ∙ means-at_start ops (draws_of drawing) items fit stream
   means_by (Some ending) is fit knows items stream =
       let only : OnlyEnds (draws_of drawing) 0 (cursors_at_start ops) no_piece ending = rw is at knows in
       to_come-ended first_runner ending items is ∙ sym (only items) ∙ means-at_start ops (draws_of drawing) items fit stream
 
-  means-first : All IsOp ops → MatchOption known (AreDrained 0 (cursors_at_start ops) no_piece) (OnlyEnds (draws_of drawing) 0 (cursors_at_start ops) no_piece) → (items : List Item) → IsStream items
+  means-first : All IsOp ops → MatchOption known (AreDrained 0 (cursors_at_start ops) no_piece) (OnlyEnds (draws_of drawing) 0 (cursors_at_start ops) no_piece)
+      → (items : List Item) → IsStream items
       → to_come first_runner items ≡ flow_through (op_reactions ops (draws_of drawing)) items
   means-first fit knows items stream = means_by known refl fit knows items stream
 

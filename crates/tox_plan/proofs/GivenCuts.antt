@@ -1,5 +1,6 @@
 -- Cuts that a runner gives, one after the other.
-use Rattle.std.proofs.Common.{◌≡◌, ℕ, ◌<◌, ◌≤◌, ◌+◌, ◌*◌, List, [], ◌∷◌, ◌++◌, map, length, length-append, append_assoc, Some, None, refl, ap, ◌∙◌, sym, subst, arith}
+use Rattle.std.proofs.Common.{◌≡◌, ℕ, ◌<◌, ◌≤◌, ◌+◌, ◌*◌, List, [], ◌∷◌, ◌++◌, map, length, length-append, append_assoc, Some, None, refl, ap, ◌∙◌, sym, subst}
+use Rattle.std.proofs.Common.{arith}
 use Rattle.tox_time.specs.declared.streams.slice.Slice.{Slice}
 use Rattle.tox_time.specs.declared.streams.item.Item.{Item}
 use Rattle.tox_defs.specs.operations.Look.{as_chunk}
@@ -79,7 +80,8 @@ module _ (old : RunnerView) (cut : Slice) where
         }
 
 -- cuts at one instant are together a slice
-pub Reach-append : (start middle stop instant : ℕ) (xs ys : List Slice) → Reach start middle instant xs → Reach middle stop instant ys → Reach start stop instant (xs ++ ys)
+pub Reach-append : (start middle stop instant : ℕ) (xs ys : List Slice) → Reach start middle instant xs → Reach middle stop instant ys
+    → Reach start stop instant (xs ++ ys)
 Reach-append start middle stop instant [] ys reach others = rw reach others
 Reach-append start middle stop instant (x ∷ xs) ys reach others = (reach.0, reach.1, reach.2, Reach-append x.span.stop middle stop instant xs ys reach.3 others)
 
@@ -93,7 +95,8 @@ IsCut-one old new cut one = record {
 }
 
 -- one more cut at the slice's instant makes the slice longer
-pub IsCut-longer : (old middle new : RunnerView) (slice : Slice) (stop : ℕ) → IsCut old middle slice → middle.position ≡ slice.span.stop → middle.piece ≡ old.piece
+pub IsCut-longer : (old middle new : RunnerView) (slice : Slice) (stop : ℕ) → IsCut old middle slice → middle.position ≡ slice.span.stop
+    → middle.piece ≡ old.piece
     → IsOneCut middle new (record { span = record { start = middle.position; stop = stop }; instant = slice.instant })
     → IsCut old new (record { span = record { start = slice.span.start; stop = stop }; instant = slice.instant })
 IsCut-longer old middle new slice stop cut at piece one =
@@ -113,7 +116,8 @@ IsCut-longer old middle new slice stop cut at piece one =
     }
 
 -- a slice stays what it is where nothing more is given
-pub IsCut-same : (old middle new : RunnerView) (slice : Slice) → IsCut old middle slice → ((items : List Item) → to_come new items ≡ to_come middle items) → new.cuts ≡ middle.cuts → IsCut old new slice
+pub IsCut-same : (old middle new : RunnerView) (slice : Slice) → IsCut old middle slice → ((items : List Item) → to_come new items ≡ to_come middle items)
+    → new.cuts ≡ middle.cuts → IsCut old new slice
 IsCut-same old middle new slice cut same counted = record {
   within = cut.within;
   cuts = cut.cuts;
@@ -137,6 +141,7 @@ keeps-both old middle new first second = record {
 pub one-round : (cursors old new before after : ℕ) → new ≤ old + cursors → after ≡ before + 1 → new + cursors * before ≤ old + cursors * after
 one-round cursors old new before after few counted = rw counted (omega (arith, few))
 
-pub more-rounds : (cursors cursors' first old new before middle after : ℕ) → cursors' ≡ cursors → old + cursors * before ≤ first + cursors * middle → new ≤ old + cursors' → after ≡ middle + 1
+pub more-rounds : (cursors cursors' first old new before middle after : ℕ) → cursors' ≡ cursors → old + cursors * before ≤ first + cursors * middle
+    → new ≤ old + cursors' → after ≡ middle + 1
     → new + cursors * before ≤ first + cursors * after
 more-rounds cursors cursors' first old new before middle after same rounds few counted = rw counted (omega (arith, same, rounds, few))

@@ -10,7 +10,8 @@ use Rattle.tox_plan.proofs.RunnerOutput.{to_come-unfound, to_come-ended, idle-un
 
 -- the ending is known exactly where the source has ended, or something is to come though nothing more arrives
 pub ended_exactly : (runner : RunnerView) → IsRunning runner → runner.idle ≡ true
-    → (IsSome runner.ending → (runner.idle ≡ true) × ((runner.finished ≡ true) ⊎ (to_come runner [] ≢ []))) × ((runner.idle ≡ true) × ((runner.finished ≡ true) ⊎ (to_come runner [] ≢ [])) → IsSome runner.ending)
+    → (IsSome runner.ending → (runner.idle ≡ true) × ((runner.finished ≡ true) ⊎ (to_come runner [] ≢ [])))
+    × ((runner.idle ≡ true) × ((runner.finished ≡ true) ⊎ (to_come runner [] ≢ [])) → IsSome runner.ending)
 ended_exactly runner invariant idle = (λ some. (idle, inr (ends runner.ending refl some)), λ ended. from runner.ending refl ended.1)
   where
     ends : (ending : Option Ending) → runner.ending ≡ ending → IsSome ending → to_come runner [] ≢ []

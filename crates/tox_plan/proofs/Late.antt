@@ -1,5 +1,6 @@
 -- Operations give nothing earlier than what they take, but for a cutoff or a halt.
-use Rattle.std.proofs.Common.{◌≡◌, ℕ, zero, suc, ◌+◌, ◌-◌, ◌*◌, ◌≤◌, max, if◌then◌else◌, Bool, true, false, List, [], ◌∷◌, ◌++◌, None, Some, refl, ap, ◌∙◌, sym, subst, arith}
+use Rattle.std.proofs.Common.{◌≡◌, ℕ, zero, suc, ◌+◌, ◌-◌, ◌*◌, ◌≤◌, max, if◌then◌else◌, Bool, true, false, List, [], ◌∷◌, ◌++◌, None, Some, refl, ap, ◌∙◌, sym}
+use Rattle.std.proofs.Common.{subst, arith}
 use Rattle.std.specs.Prelude.{nat_lt}
 use Rattle.std.specs.Int.{div_ceil}
 use Rattle.tox_time.specs.declared.streams.span.Span.{Span}
@@ -38,7 +39,10 @@ AreLate d (Quiet ∷ items) = AreLate d items
 -- a stream that begins then
 pub late-stream : (d position since : ℕ) (items : List Item) → d ≤ since → IsStreamFrom position since items → AreLate d items
 late-stream d position since [] from stream = absurd stream
-late-stream d position since (Chunk span t ∷ items) from stream = (omega (arith, from, stream.2), late-stream d span.stop t items (omega (arith, from, stream.2)) stream.4)
+late-stream d position since (Chunk span t ∷ items) from stream = (
+  omega (arith, from, stream.2),
+  late-stream d span.stop t items (omega (arith, from, stream.2)) stream.4,
+)
 late-stream d position since (Closed t ∷ items) from stream = (omega (arith, from, stream.0), subst (λ items. AreLate d items) (sym stream.2) tt)
 late-stream d position since (Reset t ∷ items) from stream = (omega (arith, from, stream.0), subst (λ items. AreLate d items) (sym stream.2) tt)
 late-stream d position since (Quiet ∷ items) from stream = subst (λ items. AreLate d items) (sym stream) tt
@@ -73,7 +77,8 @@ late-leave d wait since t [] fits late = tt
 late-leave d wait since t (span ∷ spans) fits late =
     (omega (arith, fits, late), late-leave d wait (plus (max since t) (wait (span_len span))) t spans fits late)
 
-late-first_bytes : (d n : ℕ) (span : Span) (t : ℕ) (end : Ending) → d ≤ t → AreLate d (final_of end ∷ []) → AreLate d (first_bytes n span t ++ final_of end ∷ [])
+late-first_bytes : (d n : ℕ) (span : Span) (t : ℕ) (end : Ending) → d ≤ t → AreLate d (final_of end ∷ [])
+    → AreLate d (first_bytes n span t ++ final_of end ∷ [])
 late-first_bytes d zero span t end late then_late = then_late
 late-first_bytes d (suc n) span t end late then_late = (late, then_late)
 
@@ -94,7 +99,8 @@ late-cut_off d instant false item from late = (from, tt)
 late-halt_after : (d after : ℕ) (end : Ending) (state : State) (item : Item) → AreLate d (item ∷ []) → AreLate d (halt_after after end state item)
 late-halt_after d zero end state item late = late
 late-halt_after d (suc bytes) end state (Chunk span t) late =
-    late-either d (nat_lt (span_len span) (suc bytes - state.passed)) (Chunk span t ∷ []) (first_bytes (suc bytes - state.passed) span t ++ (final_of (raised end t) ∷ [])) late
+    late-either d (nat_lt (span_len span) (suc bytes - state.passed)) (Chunk span t ∷ [])
+    (first_bytes (suc bytes - state.passed) span t ++ (final_of (raised end t) ∷ [])) late
     (late-first_bytes d (suc bytes - state.passed) span t (raised end t) late.0 (late-raised d end t late.0))
 late-halt_after d (suc bytes) end state (Closed t) late = late
 late-halt_after d (suc bytes) end state (Reset t) late = late
@@ -107,12 +113,14 @@ IsLateOp d (Halt (Some at) after end) = d ≤ at
 IsLateOp d op = Unit {0}
 
 -- what an operation gives for an item
-late-giving : (d : ℕ) (op : Op) (draws : Draws) (state : State) (item : Item) → d ≤ horizon → is_mute op ≡ false → IsLateOp d op → AreLate d (item ∷ []) → AreLate d (op_giving op draws state item)
+late-giving : (d : ℕ) (op : Op) (draws : Draws) (state : State) (item : Item) → d ≤ horizon → is_mute op ≡ false → IsLateOp d op → AreLate d (item ∷ [])
+    → AreLate d (op_giving op draws state item)
 late-giving d (Delay fixed latency jitter lane until from) draws state (Chunk span t) fits loud uncut late = (omega (arith, fits, late.0), tt)
 late-giving d (Delay fixed latency jitter lane until from) draws state (Closed t) fits loud uncut late = late-in_order d state.previous (Closed t) late
 late-giving d (Delay fixed latency jitter lane until from) draws state (Reset t) fits loud uncut late = late-in_order d state.previous (Reset t) late
 late-giving d (Delay fixed latency jitter lane until from) draws state Quiet fits loud uncut late = tt
-late-giving d (Pace rate until from) draws state (Chunk span t) fits loud uncut late = late-leave d (λ n. div_ceil (1000 * n) rate) state.previous t (pieces_of (λ _. 100 * rate) 0 span) fits late.0
+late-giving d (Pace rate until from) draws state (Chunk span t) fits loud uncut late =
+    late-leave d (λ n. div_ceil (1000 * n) rate) state.previous t (pieces_of (λ _. 100 * rate) 0 span) fits late.0
 late-giving d (Pace rate until from) draws state (Closed t) fits loud uncut late = late-in_order d state.previous (Closed t) late
 late-giving d (Pace rate until from) draws state (Reset t) fits loud uncut late = late-in_order d state.previous (Reset t) late
 late-giving d (Pace rate until from) draws state Quiet fits loud uncut late = tt
@@ -128,20 +136,24 @@ late-giving d (Slicing average variation micros lane until from) draws state (Cl
 late-giving d (Slicing average variation micros lane until from) draws state (Reset t) fits loud uncut late = late-in_order d state.previous (Reset t) late
 late-giving d (Slicing average variation micros lane until from) draws state Quiet fits loud uncut late = tt
 late-giving d (Limit bytes) draws state (Chunk span t) fits loud uncut late =
-    late-either d (nat_lt (span_len span) (bytes - state.passed)) (Chunk span t ∷ []) (first_bytes (bytes - state.passed) span t ++ (Closed t ∷ [])) late (late-first_bytes d (bytes - state.passed) span t (ClosedAt t) late.0 (late.0, tt))
+    late-either d (nat_lt (span_len span) (bytes - state.passed)) (Chunk span t ∷ []) (first_bytes (bytes - state.passed) span t ++ (Closed t ∷ [])) late
+    (late-first_bytes d (bytes - state.passed) span t (ClosedAt t) late.0 (late.0, tt))
 late-giving d (Limit bytes) draws state (Closed t) fits loud uncut late = late
 late-giving d (Limit bytes) draws state (Reset t) fits loud uncut late = late
 late-giving d (Limit bytes) draws state Quiet fits loud uncut late = tt
 late-giving d (Halt None after end) draws state item fits loud uncut late = late-halt_after d after end state item late
 late-giving d (Halt (Some at) after end) draws state item fits loud uncut late =
-    late-either d (is_before at item) (halt_after after end state item) (final_of (raised end at) ∷ []) (late-halt_after d after end state item late) (late-raised d end at uncut)
+    late-either d (is_before at item) (halt_after after end state item) (final_of (raised end at) ∷ []) (late-halt_after d after end state item late)
+    (late-raised d end at uncut)
 
 module _ (d : ℕ) (op : Op) (draws : Draws) (fits : d ≤ horizon) (loud : is_mute op ≡ false) (uncut : IsLateOp d op) where
-  late-answer : (outside : Bool) (state : State) (item : Item) → AreLate d (item ∷ []) → AreLate d (if outside then uncounted_answer state item else counted (op_giving op draws) state item).given
+  late-answer : (outside : Bool) (state : State) (item : Item) → AreLate d (item ∷ [])
+      → AreLate d (if outside then uncounted_answer state item else counted (op_giving op draws) state item).given
   late-answer true state item late = late-in_order d state.previous item late
   late-answer false state item late = late-giving d op draws state item fits loud uncut late
 
-  late-step : (done : Bool) (state : State) (item : Item) → AreLate d (item ∷ []) → AreLate d (if done then (record { state = state; given = [] }) else op_reaction op draws state item).given
+  late-step : (done : Bool) (state : State) (item : Item) → AreLate d (item ∷ [])
+      → AreLate d (if done then (record { state = state; given = [] }) else op_reaction op draws state item).given
   late-step true state item late = tt
   late-step false state item late = late-answer (is_outside (op_from op) (op_until op) item) state item late
 
@@ -167,12 +179,15 @@ has_final-ending (ResetAt t) = refl
 module _ (op : Op) (draws : Draws) where
   final-ending : (state : State) (ending : Ending) → has_final (op_reaction op draws state (final_of ending)).given ≡ true
   final-ending state ending =
-      ap (λ (answer : Answer). has_final answer.given) (during-inside (op_from op) (op_until op) (counted (op_giving op draws)) state (final_of ending) (is_outside-final (op_from op) (op_until op) ending))
+      ap (λ (answer : Answer). has_final answer.given) (during-inside (op_from op) (op_until op) (counted (op_giving op draws)) state (final_of ending)
+      (is_outside-final (op_from op) (op_until op) ending))
       ∙ ap has_final (giving-final op draws state ending).1 ∙ has_final-ending (giving-final op draws state ending).0
 
-  final-giving : (state : State) (ending : Ending) (items : List Item) → state.done ≡ false → has_final (flow_from (op_reaction op draws) state (final_of ending ∷ items)) ≡ true
+  final-giving : (state : State) (ending : Ending) (items : List Item) → state.done ≡ false
+      → has_final (flow_from (op_reaction op draws) state (final_of ending ∷ items)) ≡ true
   final-giving state ending items running =
-      ap (λ (answer : Answer). has_final (answer.given ++ flow_from (op_reaction op draws) answer.state items)) (react-running (op_reaction op draws) state (final_of ending) running)
+      ap (λ (answer : Answer). has_final (answer.given ++ flow_from (op_reaction op draws) answer.state items))
+      (react-running (op_reaction op draws) state (final_of ending) running)
       ∙ has_final-early (op_reaction op draws state (final_of ending)).given _ (final-ending state ending)
 
   -- who gives no final for a chunk goes on
@@ -186,15 +201,18 @@ module _ (op : Op) (draws : Draws) where
       → (ends ≡ false → has_final (flow_from (op_reaction op draws) (op_reaction op draws state item).state items) ≡ true)
       → has_final (flow_from (op_reaction op draws) state (item ∷ items)) ≡ true
   final-step state item items running true is others =
-      ap (λ (answer : Answer). has_final (answer.given ++ flow_from (op_reaction op draws) answer.state items)) (react-running (op_reaction op draws) state item running)
+      ap (λ (answer : Answer). has_final (answer.given ++ flow_from (op_reaction op draws) answer.state items))
+      (react-running (op_reaction op draws) state item running)
       ∙ has_final-early (op_reaction op draws state item).given _ is
   final-step state item items running false is others =
-      ap (λ (answer : Answer). has_final (answer.given ++ flow_from (op_reaction op draws) answer.state items)) (react-running (op_reaction op draws) state item running)
+      ap (λ (answer : Answer). has_final (answer.given ++ flow_from (op_reaction op draws) answer.state items))
+      (react-running (op_reaction op draws) state item running)
       ∙ has_final-append (op_reaction op draws state item).given _ is
       ∙ others refl
 
   -- a final brings a final
-  pub final-flow : (state : State) (items : List Item) → state.done ≡ false → has_final items ≡ true → has_final (flow_from (op_reaction op draws) state items) ≡ true
+  pub final-flow : (state : State) (items : List Item) → state.done ≡ false → has_final items ≡ true
+      → has_final (flow_from (op_reaction op draws) state items) ≡ true
   final-flow state [] running final = absurd (cc)
   final-flow state (Closed t ∷ items) running final = final-giving state (ClosedAt t) items running
   final-flow state (Reset t ∷ items) running final = final-giving state (ResetAt t) items running

@@ -1,5 +1,6 @@
 -- A runner that looks for its next cut.
-use Rattle.std.proofs.Common.{◌≡◌, ℕ, ◌<◌, ◌≤◌, ◌+◌, ◌*◌, ◌^◌, Bool, true, false, List, [], ◌∷◌, length, Option, Some, None, refl, ap, ◌∙◌, sym, subst, arith, inl, inr}
+use Rattle.std.proofs.Common.{◌≡◌, ℕ, ◌<◌, ◌≤◌, ◌+◌, ◌*◌, ◌^◌, Bool, true, false, List, [], ◌∷◌, length, Option, Some, None, refl, ap, ◌∙◌, sym, subst, arith}
+use Rattle.std.proofs.Common.{inl, inr}
 use Rattle.std.proofs.Math.Nat.{mul-le-mul_right}
 use Rattle.std.proofs.Math.Seq.{take-append_seam}
 use Rattle.std.specs.List.{refill}
@@ -34,7 +35,8 @@ pub refill-whole : (n : ℕ) (old new : List OpCursor) → length new ≡ n → 
 refill-whole n old new same_length = rw (← same_length) (take-append_seam new _)
 
 -- nothing is left behind a cut that stops where the piece does, where no cursor keeps an ending
-pub drained-behind : (start : ℕ) (cursors : List OpCursor) (source : Slice) → AreNested start cursors source → (HaveEnded cursors → ⊥) → start ≡ source.span.stop → AreDrained start cursors source
+pub drained-behind : (start : ℕ) (cursors : List OpCursor) (source : Slice) → AreNested start cursors source → (HaveEnded cursors → ⊥)
+    → start ≡ source.span.stop → AreDrained start cursors source
 drained-behind start [] source nested unended at = sym at
 drained-behind start (cursor ∷ cursors) source nested unended at =
     let below : cursor.stop ≤ source.span.stop = nested-below cursor.stop cursors source nested.1 in
@@ -61,8 +63,10 @@ module _ (old : RunnerView) (cursors : List OpCursor) (turns : ℕ) (ended : Boo
     pieces = old.pieces;
   }
 
-  module _ (invariant : IsRunning old) (unread : old.drained ≡ false) (unfound : old.lookahead ≡ None) (next : IsNext (draws_of old.drawing) old.position old.cursors cursors old.piece cut) where
-    pub IsRunning-after_found : (last ≡ true → AreDrained cut.span.stop cursors old.piece) → AreOpenUnless ended cursors → length cursors ≡ length old.cursors → turns ≤ old.turns + length old.cursors → old.turns ≤ turns → (0 < length old.cursors → old.turns < turns) → IsRunning after_found
+  module _ (invariant : IsRunning old) (unread : old.drained ≡ false) (unfound : old.lookahead ≡ None)
+      (next : IsNext (draws_of old.drawing) old.position old.cursors cursors old.piece cut) where
+    pub IsRunning-after_found : (last ≡ true → AreDrained cut.span.stop cursors old.piece) → AreOpenUnless ended cursors → length cursors ≡ length old.cursors
+        → turns ≤ old.turns + length old.cursors → old.turns ≤ turns → (0 < length old.cursors → old.turns < turns) → IsRunning after_found
     IsRunning-after_found drained unended same_length few_turns more looked =
         let busy : old.idle ≡ false = unread-busy old invariant unread in
         let running : old.ending ≡ None = unread-ending old invariant unread in
@@ -113,12 +117,14 @@ module _ (old : RunnerView) (cursors : List OpCursor) (turns : ℕ) (ended : Boo
   }
 
   module _ (invariant : IsRunning old) (unread : old.drained ≡ false) (unfound : old.lookahead ≡ None) where
-    pub IsRunning-after_read : (ending ≡ None → AreDrained old.position cursors old.piece × AreNested old.position cursors old.piece) → (IsSome ending → HaveEnded cursors) → AreOpenUnless ended cursors
+    pub IsRunning-after_read : (ending ≡ None → AreDrained old.position cursors old.piece × AreNested old.position cursors old.piece)
+        → (IsSome ending → HaveEnded cursors) → AreOpenUnless ended cursors
         → length cursors ≡ length old.cursors → turns ≤ old.turns + length old.cursors → old.turns ≤ turns → IsRunning after_read
     IsRunning-after_read drained kept unended same_length few_turns more =
         let counted : length old.cursors + old.turns ≤ length old.cursors * (old.cuts + old.pieces) = rw (unfound, unread) at invariant.counted in
         let cuts_looked : 0 < length old.cursors → old.cuts + 0 ≤ old.turns = rw unfound at invariant.looked in
-        let running : old.finished ≡ true → ⊥ = (λ reported. let both : true ≡ false = sym (invariant.ended (invariant.reported reported)) ∙ unread in absurd (cc)) in
+        let running : old.finished ≡ true → ⊥ = (λ reported. let both : true ≡ false = sym (invariant.ended (invariant.reported reported))
+        ∙ unread in absurd (cc)) in
         record {
           nested = λ none. rw unfound (drained none).1;
           drained = λ read none. rw unfound (drained none).0;
@@ -139,12 +145,15 @@ module _ (old : RunnerView) (cursors : List OpCursor) (turns : ℕ) (ended : Boo
         }
 
 -- a piece that was read to its end was given whole, unless the ending is known
-pub read-whole : (runner : RunnerView) → IsRunning runner → runner.drained ≡ true → runner.lookahead ≡ None → runner.ending ≡ None → runner.position ≡ runner.piece.span.stop
+pub read-whole : (runner : RunnerView) → IsRunning runner → runner.drained ≡ true → runner.lookahead ≡ None → runner.ending ≡ None
+    → runner.position ≡ runner.piece.span.stop
 read-whole runner invariant read none open_yet =
-    sym (drained-at runner.position runner.cursors runner.piece (subst (λ found. AreDrained (reader_at runner.position found) runner.cursors runner.piece) none (invariant.drained read open_yet)))
+    sym (drained-at runner.position runner.cursors runner.piece (subst (λ found. AreDrained (reader_at runner.position found) runner.cursors runner.piece) none
+    (invariant.drained read open_yet)))
 
 -- where a look finds no cut, no chunk is left
-pub look-none : (old new : RunnerView) → IsRunning new → (IsNone new.lookahead → new.drained ≡ true) → new.lookahead ≡ None → ((items : List Item) → to_come new items ≡ to_come old items)
+pub look-none : (old new : RunnerView) → IsRunning new → (IsNone new.lookahead → new.drained ≡ true) → new.lookahead ≡ None
+    → ((items : List Item) → to_come new items ≡ to_come old items)
     → HasNoChunk (to_come new (Quiet ∷ [])) × HasNoChunk (to_come old (Quiet ∷ []))
 look-none old new invariant read none same =
     let chunks : HasNoChunk (to_come new (Quiet ∷ [])) = read-no_chunk new invariant (read (subst IsNone (sym none) refl)) none in
@@ -159,7 +168,8 @@ no_chunk-apart instant (Reset t ∷ items) none = none
 no_chunk-apart instant (Quiet ∷ items) none = none
 
 -- a slice ends where a look finds no cut
-pub look-ends : (runner : RunnerView) (instant : ℕ) → IsRunning runner → (IsNone runner.lookahead → runner.drained ≡ true) → runner.lookahead ≡ None → EndsHere instant runner
+pub look-ends : (runner : RunnerView) (instant : ℕ) → IsRunning runner → (IsNone runner.lookahead → runner.drained ≡ true) → runner.lookahead ≡ None
+    → EndsHere instant runner
 look-ends runner instant invariant read none = from runner.ending refl
   where
     is_read : runner.drained ≡ true
@@ -167,7 +177,9 @@ look-ends runner instant invariant read none = from runner.ending refl
 
     from : (ending : Option Ending) → runner.ending ≡ ending → EndsHere instant runner
     from None is =
-        let drained : AreDrained runner.position runner.cursors runner.piece = subst (λ found. AreDrained (reader_at runner.position found) runner.cursors runner.piece) none (invariant.drained is_read is) in
+        let drained : AreDrained runner.position runner.cursors runner.piece =
+        subst (λ found. AreDrained (reader_at runner.position found) runner.cursors runner.piece) none (invariant.drained is_read is) in
         inl (sym (drained-at runner.position runner.cursors runner.piece drained))
     from (Some ending) is =
-        inr (λ items. subst (BeginsApart instant) (sym (to_come-ended runner ending items is)) (no_chunk-apart instant (final_of ending ∷ []) (final-no_chunk ending)))
+        inr (λ items. subst (BeginsApart instant) (sym (to_come-ended runner ending items is))
+        (no_chunk-apart instant (final_of ending ∷ []) (final-no_chunk ending)))

@@ -25,7 +25,8 @@ module _ (old : RunnerView) (len instant : ℕ) where
         let counted : 0 + old.turns ≤ length old.cursors * (old.cuts + old.pieces) = rw (unfound, invariant.idle idle) at invariant.counted in
         let cuts_looked : 0 < length old.cursors → old.cuts + 0 ≤ old.turns = rw unfound at invariant.looked in
         record {
-          nested = λ _. nested-longer (reader_at old.position old.lookahead) old.cursors old.piece (next_piece old len instant) (omega arith) (invariant.nested none);
+          nested = λ _. nested-longer (reader_at old.position old.lookahead) old.cursors old.piece (next_piece old len instant) (omega arith)
+              (invariant.nested none);
           drained = λ read. absurd (let e : false ≡ true = read in cc);
           found = subst (λ found. IfSome found (IsFound (with_offer old len instant))) (sym unfound) tt;
           unended = invariant.unended;
@@ -43,7 +44,8 @@ module _ (old : RunnerView) (len instant : ℕ) where
           looked = λ some. rw unfound (cuts_looked some);
         }
 
-    pub to_come-after_offer : 0 < len → (items : List Item) → to_come (with_offer old len instant) items ≡ to_come old (as_chunk (next_piece old len instant) ∷ items)
+    pub to_come-after_offer : 0 < len → (items : List Item) → to_come (with_offer old len instant) items
+        ≡ to_come old (as_chunk (next_piece old len instant) ∷ items)
     to_come-after_offer some items =
         to_come-unfound (with_offer old len instant) items none unfound
         ∙ drained-offered (draws_of old.drawing) old.position old.cursors old.piece (next_piece old len instant) items drained refl (omega arith)

@@ -35,7 +35,8 @@ never-replicate (suc n) since t ts before never = (before, never-replicate n t t
 -- the instants of a stream's bytes
 table-never : (position since : ℕ) (items : List Item) → IsStreamFrom position since items → NeverFall since (table items)
 table-never position since [] stream = absurd stream
-table-never position since (Chunk span t ∷ items) stream = never-replicate (span_len span) since t (table items) stream.2 (table-never span.stop t items stream.4)
+table-never position since (Chunk span t ∷ items) stream = never-replicate (span_len span) since t (table items) stream.2
+    (table-never span.stop t items stream.4)
 table-never position since (Closed t ∷ items) stream = subst (λ items. NeverFall since (table items)) (sym stream.2) tt
 table-never position since (Reset t ∷ items) stream = subst (λ items. NeverFall since (table items)) (sym stream.2) tt
 table-never position since (Quiet ∷ items) stream = subst (λ items. NeverFall since (table items)) (sym stream) tt
@@ -75,16 +76,20 @@ never-from zero instant ts since some never = absurd (omega (arith, some))
 never-from (suc n) instant ts since some never = never-behind instant (replicate n instant) ts never.1
 
 -- what is left behind a slice leaves later, where all that was given and is to come is a plan's meaning
-pub left-after : (plan : Ops) (offered : List Item) (given : List Slice) (slice : Slice) (runner : RunnerView) → IsPlan plan → IsStream (offered ++ Quiet ∷ []) → HasGiven plan offered (given ++ slice ∷ []) runner
-    → slice.span.start < slice.span.stop → BeginsApart slice.instant (to_come runner (Quiet ∷ [])) → AreAfter slice.instant (table (to_come runner (Quiet ∷ [])))
+pub left-after : (plan : Ops) (offered : List Item) (given : List Slice) (slice : Slice) (runner : RunnerView) → IsPlan plan → IsStream (offered ++ Quiet ∷ [])
+    → HasGiven plan offered (given ++ slice ∷ []) runner
+    → slice.span.start < slice.span.stop → BeginsApart slice.instant (to_come runner (Quiet ∷ []))
+    → AreAfter slice.instant (table (to_come runner (Quiet ∷ [])))
 left-after plan offered given slice runner fits stream has some apart =
     let left : List ℕ = table (to_come runner (Quiet ∷ [])) in
     let whole : NeverFall 0 (slices_table (given ++ slice ∷ []) ++ left)
     = subst (λ ts. NeverFall 0 ts) (sym (has.tables (Quiet ∷ []) stream))
-    (table-never 0 0 (means plan runner.drawing.words (offered ++ Quiet ∷ [])) (stream-through plan.ops (draw_in plan.lanes runner.drawing.words) (offered ++ Quiet ∷ []) fits.operations stream)) in
+    (table-never 0 0 (means plan runner.drawing.words (offered ++ Quiet ∷ []))
+    (stream-through plan.ops (draw_in plan.lanes runner.drawing.words) (offered ++ Quiet ∷ []) fits.operations stream)) in
     let split : slices_table (given ++ slice ∷ []) ++ left ≡ slices_table given ++ (replicate (span_len slice.span) slice.instant ++ left)
     = ap (λ ts. ts ++ left) (slices_table-append given (slice ∷ []))
     ∙ append_assoc (slices_table given) (slices_table (slice ∷ [])) left
     ∙ ap (λ ts. slices_table given ++ ts) (append_assoc (replicate (span_len slice.span) slice.instant) [] left) in
     begins-after slice.instant (to_come runner (Quiet ∷ [])) apart
-    (never-from (span_len slice.span) slice.instant left 0 (omega (arith, some)) (never-behind 0 (slices_table given) _ (subst (λ ts. NeverFall 0 ts) split whole)))
+    (never-from (span_len slice.span) slice.instant left 0 (omega (arith, some))
+    (never-behind 0 (slices_table given) _ (subst (λ ts. NeverFall 0 ts) split whole)))

@@ -16,11 +16,14 @@ use Rattle.tox_plan.specs.RunnerView.{RunnerView, IsRunning, IsFound, to_come, f
 use Rattle.tox_plan.proofs.Endings.{drained-final}
 
 pub to_come-running : (runner : RunnerView) (items : List Item) → runner.ending ≡ None
-    → to_come runner items ≡ found_chunk runner.lookahead ++ to_come_from (draws_of runner.drawing) (reader_at runner.position runner.lookahead) runner.cursors runner.piece items
+    → to_come runner items ≡ found_chunk runner.lookahead ++ to_come_from (draws_of runner.drawing) (reader_at runner.position runner.lookahead) runner.cursors
+    runner.piece items
 to_come-running runner items running =
-    ap (λ ending. ending_or ending (found_chunk runner.lookahead ++ to_come_from (draws_of runner.drawing) (reader_at runner.position runner.lookahead) runner.cursors runner.piece items)) running
+    ap (λ ending. ending_or ending (found_chunk runner.lookahead ++ to_come_from (draws_of runner.drawing) (reader_at runner.position runner.lookahead)
+    runner.cursors runner.piece items)) running
 
-pub to_come-unfound : (runner : RunnerView) (items : List Item) → runner.ending ≡ None → runner.lookahead ≡ None → to_come runner items ≡ to_come_from (draws_of runner.drawing) runner.position runner.cursors runner.piece items
+pub to_come-unfound : (runner : RunnerView) (items : List Item) → runner.ending ≡ None → runner.lookahead ≡ None
+    → to_come runner items ≡ to_come_from (draws_of runner.drawing) runner.position runner.cursors runner.piece items
 to_come-unfound runner items running none =
     to_come-running runner items running
     ∙ ap (λ found. found_chunk found ++ to_come_from (draws_of runner.drawing) (reader_at runner.position found) runner.cursors runner.piece items) none
@@ -33,7 +36,8 @@ to_come-found runner cut items running some =
 
 pub to_come-ended : (runner : RunnerView) (ending : Ending) (items : List Item) → runner.ending ≡ Some ending → to_come runner items ≡ final_of ending ∷ []
 to_come-ended runner ending items ended =
-    ap (λ ending. ending_or ending (found_chunk runner.lookahead ++ to_come_from (draws_of runner.drawing) (reader_at runner.position runner.lookahead) runner.cursors runner.piece items)) ended
+    ap (λ ending. ending_or ending (found_chunk runner.lookahead ++ to_come_from (draws_of runner.drawing) (reader_at runner.position runner.lookahead)
+    runner.cursors runner.piece items)) ended
 
 -- an idle runner has found nothing
 pub idle-unfound : (runner : RunnerView) → IsRunning runner → runner.idle ≡ true → runner.lookahead ≡ None
@@ -48,7 +52,8 @@ idle-unfound runner invariant idle = by runner.lookahead refl
 -- the cursors of an idle runner with no ending are drained
 pub idle-drained : (runner : RunnerView) → IsRunning runner → runner.idle ≡ true → runner.ending ≡ None → AreDrained runner.position runner.cursors runner.piece
 idle-drained runner invariant idle none =
-    subst (λ found. AreDrained (reader_at runner.position found) runner.cursors runner.piece) (idle-unfound runner invariant idle) (invariant.drained (invariant.idle idle) none)
+    subst (λ found. AreDrained (reader_at runner.position found) runner.cursors runner.piece) (idle-unfound runner invariant idle)
+    (invariant.drained (invariant.idle idle) none)
 
 -- what is found comes before any ending
 pub found-cut : (runner : RunnerView) (cut : Slice) → IsRunning runner → runner.lookahead ≡ Some cut → IsFound runner cut
@@ -81,9 +86,11 @@ no_chunk-table (Reset t ∷ items) none = no_chunk-table items none
 no_chunk-table (Quiet ∷ items) none = no_chunk-table items none
 
 -- no chunk comes any more from drained cursors, once the source says nothing more
-pub drained-no_chunk : (draws : Draws) (start : ℕ) (cursors : List OpCursor) (source : Slice) → AreNested start cursors source → AreDrained start cursors source → HasNoChunk (to_come_from draws start cursors source (Quiet ∷ []))
+pub drained-no_chunk : (draws : Draws) (start : ℕ) (cursors : List OpCursor) (source : Slice) → AreNested start cursors source → AreDrained start cursors source
+    → HasNoChunk (to_come_from draws start cursors source (Quiet ∷ []))
 drained-no_chunk draws start cursors source nested drained =
-    let last : (last : Ending) × (to_come_from draws start cursors source (final_of StillOpen ∷ []) ≡ final_of last ∷ []) = drained-final draws start cursors source StillOpen nested drained in
+    let last : (last : Ending) × (to_come_from draws start cursors source (final_of StillOpen ∷ []) ≡ final_of last ∷ []) =
+    drained-final draws start cursors source StillOpen nested drained in
     subst HasNoChunk (sym last.1) (final-no_chunk last.0)
 
 -- no chunk comes any more from a runner that has read its piece, unless it is offered one
@@ -92,14 +99,18 @@ read-no_chunk runner invariant read none = from runner.ending refl
   where
     from : (ending : Option Ending) → runner.ending ≡ ending → HasNoChunk (to_come runner (Quiet ∷ []))
     from None is =
-        let drained : AreDrained runner.position runner.cursors runner.piece = subst (λ found. AreDrained (reader_at runner.position found) runner.cursors runner.piece) none (invariant.drained read is) in
-        let nested : AreNested runner.position runner.cursors runner.piece = subst (λ found. AreNested (reader_at runner.position found) runner.cursors runner.piece) none (invariant.nested is) in
-        subst HasNoChunk (sym (to_come-unfound runner (Quiet ∷ []) is none)) (drained-no_chunk (draws_of runner.drawing) runner.position runner.cursors runner.piece nested drained)
+        let drained : AreDrained runner.position runner.cursors runner.piece =
+        subst (λ found. AreDrained (reader_at runner.position found) runner.cursors runner.piece) none (invariant.drained read is) in
+        let nested : AreNested runner.position runner.cursors runner.piece =
+        subst (λ found. AreNested (reader_at runner.position found) runner.cursors runner.piece) none (invariant.nested is) in
+        subst HasNoChunk (sym (to_come-unfound runner (Quiet ∷ []) is none))
+        (drained-no_chunk (draws_of runner.drawing) runner.position runner.cursors runner.piece nested drained)
     from (Some ending) is = subst HasNoChunk (sym (to_come-ended runner ending (Quiet ∷ []) is)) (final-no_chunk ending)
 
 -- a runner that has not read its piece has no ending
 pub unread-ending : (runner : RunnerView) → IsRunning runner → runner.drained ≡ false → runner.ending ≡ None
-unread-ending runner invariant unread = unknown runner.ending (λ some. let read : runner.drained ≡ true = invariant.ended some in absurd (let both : true ≡ false = sym read ∙ unread in cc))
+unread-ending runner invariant unread = unknown runner.ending (λ some. let read : runner.drained ≡ true = invariant.ended some in
+    absurd (let both : true ≡ false = sym read ∙ unread in cc))
 
 pub unread-busy : (runner : RunnerView) → IsRunning runner → runner.drained ≡ false → runner.idle ≡ false
 unread-busy runner invariant unread = by runner.idle refl

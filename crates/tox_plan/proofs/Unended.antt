@@ -54,7 +54,8 @@ open-raised now (ClosedAt end) at fits later = (omega (arith, later), omega (ari
 open-raised now (ResetAt end) at fits later = omega (arith, later)
 
 -- of a link that stays open an operation makes one that does, or that ends later
-open-still : (now : ℕ) (op : Op) (draws : Draws) (state : State) → is_mute op ≡ false → IsOp op → IsLateOp (suc now) op → IsOpenYet now (ending (op_giving op draws state Quiet))
+open-still : (now : ℕ) (op : Op) (draws : Draws) (state : State) → is_mute op ≡ false → IsOp op → IsLateOp (suc now) op
+    → IsOpenYet now (ending (op_giving op draws state Quiet))
 open-still now (Delay fixed latency jitter lane until from) draws state loud fits late = tt
 open-still now (Pace rate until from) draws state loud fits late = tt
 open-still now (Slow millis) draws state loud fits late = tt
@@ -64,20 +65,23 @@ open-still now (Slicing average variation micros lane until from) draws state lo
 open-still now (Limit bytes) draws state loud fits late = tt
 open-still now (Halt None zero end) draws state loud fits late = tt
 open-still now (Halt None (suc bytes) end) draws state loud fits late = tt
-open-still now (Halt (Some at) after end) draws state loud fits late = subst (IsOpenYet now) (sym (final-ending (raised end at))) (open-raised now end at fits.0 late)
+open-still now (Halt (Some at) after end) draws state loud fits late = subst (IsOpenYet now) (sym (final-ending (raised end at)))
+    (open-raised now end at fits.0 late)
 
 either-open : (now : ℕ) (b : Bool) (one other : Ending) → IsOpenYet now one → IsOpenYet now other → IsOpenYet now (if b then one else other)
 either-open now true one other first second = first
 either-open now false one other first second = second
 
-open-halted : (now at after : ℕ) (end : Ending) (state : State) (last : Ending) → at ≤ horizon → now < at → IsOpenYet now last → IsOpenYet now (ending (halt_gives (Some at) after end state (final_of last)))
+open-halted : (now at after : ℕ) (end : Ending) (state : State) (last : Ending) → at ≤ horizon → now < at → IsOpenYet now last
+    → IsOpenYet now (ending (halt_gives (Some at) after end state (final_of last)))
 open-halted now at after end state last fits late later =
     let before : Bool = is_before at (final_of last) in
     subst (IsOpenYet now) (sym (ap ending (halt-final at after end state last) ∙ final-ending (if before then last else raised end at)))
     (either-open now before last (raised end at) later (open-raised now end at fits late))
 
 -- what ends later still does
-open-later : (now : ℕ) (op : Op) (draws : Draws) (state : State) (last : Ending) → last ≢ StillOpen → is_mute op ≡ false → IsOp op → IsLateOp (suc now) op → IsOpenYet now last → IsOpenYet now (ending (op_giving op draws state (final_of last)))
+open-later : (now : ℕ) (op : Op) (draws : Draws) (state : State) (last : Ending) → last ≢ StillOpen → is_mute op ≡ false → IsOp op → IsLateOp (suc now) op
+    → IsOpenYet now last → IsOpenYet now (ending (op_giving op draws state (final_of last)))
 open-later now op draws state StillOpen ends loud fits late later = absurd (ends refl)
 open-later now (Delay fixed latency jitter lane until from) draws state (ClosedAt t) ends loud fits late later = (omega (arith, later.0, later.1), later.1)
 open-later now (Delay fixed latency jitter lane until from) draws state (ResetAt t) ends loud fits late later = omega (arith, later)
@@ -97,7 +101,8 @@ open-later now (Cutoff instant) draws state (ResetAt t) ends loud fits late late
     by : (early : Bool) → IsOpenYet now (ending ((if early then Reset t else Reset instant) ∷ []))
     by true = later
     by false = late
-open-later now (Slicing average variation micros lane until from) draws state (ClosedAt t) ends loud fits late later = (omega (arith, later.0, later.1), later.1)
+open-later now (Slicing average variation micros lane until from) draws state (ClosedAt t) ends loud fits late later =
+    (omega (arith, later.0, later.1), later.1)
 open-later now (Slicing average variation micros lane until from) draws state (ResetAt t) ends loud fits late later = omega (arith, later)
 open-later now (Limit bytes) draws state (ClosedAt t) ends loud fits late later = later
 open-later now (Limit bytes) draws state (ResetAt t) ends loud fits late later = later
@@ -108,7 +113,8 @@ open-later now (Halt None (suc bytes) end) draws state (ResetAt t) ends loud fit
 open-later now (Halt (Some at) after end) draws state (ClosedAt t) ends loud fits late later = open-halted now at after end state (ClosedAt t) fits.0 late later
 open-later now (Halt (Some at) after end) draws state (ResetAt t) ends loud fits late later = open-halted now at after end state (ResetAt t) fits.0 late later
 
-open-giving : (now : ℕ) (op : Op) (draws : Draws) (state : State) (last : Ending) → is_mute op ≡ false → IsOp op → IsLateOp (suc now) op → IsOpenYet now last → IsOpenYet now (ending (op_giving op draws state (final_of last)))
+open-giving : (now : ℕ) (op : Op) (draws : Draws) (state : State) (last : Ending) → is_mute op ≡ false → IsOp op → IsLateOp (suc now) op → IsOpenYet now last
+    → IsOpenYet now (ending (op_giving op draws state (final_of last)))
 open-giving now op draws state StillOpen loud fits late open_yet = open-still now op draws state loud fits late
 open-giving now op draws state (ClosedAt t) loud fits late open_yet = open-later now op draws state (ClosedAt t) (λ same. cc) loud fits late open_yet
 open-giving now op draws state (ResetAt t) loud fits late open_yet = open-later now op draws state (ResetAt t) (λ same. cc) loud fits late open_yet
@@ -123,7 +129,8 @@ either-ends : (b : Bool) (one other : Ending) → one ≢ StillOpen → other �
 either-ends true one other first second = first
 either-ends false one other first second = second
 
-halted-ends : (at after : ℕ) (end : Ending) (state : State) (last : Ending) → leaves_open (Halt (Some at) after end) ≡ false → last ≢ StillOpen → ending (halt_gives (Some at) after end state (final_of last)) ≢ StillOpen
+halted-ends : (at after : ℕ) (end : Ending) (state : State) (last : Ending) → leaves_open (Halt (Some at) after end) ≡ false → last ≢ StillOpen
+    → ending (halt_gives (Some at) after end state (final_of last)) ≢ StillOpen
 halted-ends at after end state last closes ends same =
     let before : Bool = is_before at (final_of last) in
     either-ends before last (raised end at) ends (raised-ends end at after closes)
@@ -134,7 +141,8 @@ cut-ends true instant last ends same = ends (sym (final-ending last) ∙ same)
 cut-ends false instant last ends same = cc
 
 -- what ends still ends, or a cutoff resets it
-ends-giving : (op : Op) (draws : Draws) (state : State) (last : Ending) → is_mute op ≡ false → IsOp op → leaves_open op ≡ false → last ≢ StillOpen → ending (op_giving op draws state (final_of last)) ≢ StillOpen
+ends-giving : (op : Op) (draws : Draws) (state : State) (last : Ending) → is_mute op ≡ false → IsOp op → leaves_open op ≡ false → last ≢ StillOpen
+    → ending (op_giving op draws state (final_of last)) ≢ StillOpen
 ends-giving op draws state StillOpen loud fits closes ends same = ends refl
 ends-giving (Mute end) draws state last loud fits closes ends same = absurd (cc)
 ends-giving (Cutoff instant) draws state last loud fits closes ends same = cut-ends (is_before instant (final_of last)) instant last ends same
@@ -149,8 +157,10 @@ each-closes [] none = tt
 each-closes (op ∷ ops) none = let parts = or_parts (leaves_open op) (list_any leaves_open ops) none in (parts.0, each-closes ops parts.1)
 
 -- what such operations keep of an ending, drained cursors keep
-module _ (P : Ending → Type 0) (Q : Op → Type 0) (keeps : (op : Op) (draws : Draws) (state : State) (last : Ending) → is_mute op ≡ false → IsOp op → Q op → P last → P (ending (op_giving op draws state (final_of last)))) where
-  drained-keeps : (draws : Draws) (start : ℕ) (cursors : List OpCursor) (source : Slice) (end : Ending) → AreNested start cursors source → AreDrained start cursors source → EachOp Q (ops_of cursors) → P end
+module _ (P : Ending → Type 0) (Q : Op → Type 0) (keeps : (op : Op) (draws : Draws) (state : State) (last : Ending) → is_mute op ≡ false → IsOp op → Q op
+    → P last → P (ending (op_giving op draws state (final_of last)))) where
+  drained-keeps : (draws : Draws) (start : ℕ) (cursors : List OpCursor) (source : Slice) (end : Ending) → AreNested start cursors source
+      → AreDrained start cursors source → EachOp Q (ops_of cursors) → P end
       → (last : Ending) × P last × (to_come_from draws start cursors source (final_of end ∷ []) ≡ final_of last ∷ [])
   drained-keeps draws start [] source end nested drained late is = (end, is, to_come_from-read draws start source (final_of end ∷ []) drained)
   drained-keeps draws start (cursor ∷ cursors) source end nested drained late is =
@@ -158,7 +168,8 @@ module _ (P : Ending → Type 0) (Q : Op → Type 0) (keeps : (op : Op) (draws :
       let above = drained-keeps draws cursor.stop cursors source end nested.1 drained.2 split.0 is in
       let last = giving-final cursor.op draws cursor.state above.0 in (
         last.0,
-        subst P (ap ending last.1 ∙ final-ending last.0) (keeps cursor.op draws cursor.state above.0 (nested.0.heard drained.1) nested.0.sound.operation split.1 above.1),
+        subst P (ap ending last.1 ∙ final-ending last.0) (keeps cursor.op draws cursor.state above.0 (nested.0.heard drained.1) nested.0.sound.operation split.1
+            above.1),
         ap (λ items. cursor_gives draws start cursor items) above.2
             ∙ cursor_gives-final draws start cursor above.0 last.0 drained.0 drained.1 (nested.0.sound.running drained.1) last.1,
       )
@@ -167,17 +178,22 @@ module _ (runner : RunnerView) (invariant : IsRunning runner) (idle : runner.idl
   unfound : runner.lookahead ≡ None
   unfound = idle-unfound runner invariant idle
 
-  runner-keeps : (P : Ending → Type 0) (Q : Op → Type 0) → ((op : Op) (draws : Draws) (state : State) (last : Ending) → is_mute op ≡ false → IsOp op → Q op → P last → P (ending (op_giving op draws state (final_of last))))
+  runner-keeps : (P : Ending → Type 0) (Q : Op → Type 0) → ((op : Op) (draws : Draws) (state : State) (last : Ending) → is_mute op ≡ false → IsOp op → Q op
+      → P last → P (ending (op_giving op draws state (final_of last))))
       → (end : Ending) → EachOp Q (ops_of runner.cursors) → P end → P (ending (to_come runner (final_of end ∷ [])))
   runner-keeps P Q keeps end late is =
-      let nested : AreNested runner.position runner.cursors runner.piece = subst (λ found. AreNested (reader_at runner.position found) runner.cursors runner.piece) unfound (invariant.nested unknown) in
-      let kept = drained-keeps P Q keeps (draws_of runner.drawing) runner.position runner.cursors runner.piece end nested (idle-drained runner invariant idle unknown) late is in
+      let nested : AreNested runner.position runner.cursors runner.piece =
+      subst (λ found. AreNested (reader_at runner.position found) runner.cursors runner.piece) unfound (invariant.nested unknown) in
+      let kept = drained-keeps P Q keeps (draws_of runner.drawing) runner.position runner.cursors runner.piece end nested
+      (idle-drained runner invariant idle unknown) late is in
       subst P (sym (ap ending (to_come-unfound runner (final_of end ∷ []) unknown unfound ∙ kept.2) ∙ final-ending kept.0)) kept.1
 
   pub unended-runner : (now : ℕ) → IsBeforeDeadline now (deadline_of (ops_of runner.cursors)) → IsUnended (ops_of runner.cursors) (to_come runner) now
   unended-runner now before = record {
-    quiet = open-yet now _ (runner-keeps (IsOpenYet now) (IsLateOp (suc now)) (open-giving now) StillOpen (late-before_deadline now (ops_of runner.cursors) before) tt);
-    closed = λ none. runner-keeps (λ last. last ≢ StillOpen) (λ op. leaves_open op ≡ false) ends-giving (ClosedAt now) (each-closes (ops_of runner.cursors) none) closed_ends;
+    quiet = open-yet now _ (runner-keeps (IsOpenYet now) (IsLateOp (suc now)) (open-giving now) StillOpen
+        (late-before_deadline now (ops_of runner.cursors) before) tt);
+    closed = λ none. runner-keeps (λ last. last ≢ StillOpen) (λ op. leaves_open op ≡ false) ends-giving (ClosedAt now)
+        (each-closes (ops_of runner.cursors) none) closed_ends;
   }
     where
       closed_ends : ClosedAt now ≢ StillOpen

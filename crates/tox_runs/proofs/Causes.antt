@@ -5,7 +5,8 @@ use Rattle.tox_time.specs.declared.streams.arrivals.ArrivalFault.{ArrivalFault}
 use Rattle.tox_time.specs.streams.Arrivals.{push_fault, eof_fault}
 use Rattle.tox_text.specs.declared.fault.DryFault.{DryFault}
 use Rattle.tox_text.specs.declared.fault.DryFault.TheVariants.{OutOfMemory, BadLine, TooLong, ReadFault, WriteFault, Arrival}
-use Rattle.tox_text.specs.arrivals.ArrivalsText.{Arrived, arrivals_of, lines_of, no_arrivals, arrived_or_fault, with_eof, after_line, after_lines, with_data, after_read}
+use Rattle.tox_text.specs.arrivals.ArrivalsText.{Arrived, arrivals_of, lines_of, no_arrivals, arrived_or_fault, with_eof, after_line, after_lines, with_data}
+use Rattle.tox_text.specs.arrivals.ArrivalsText.{after_read}
 use Rattle.tox_text.specs.arrivals.Line.{Line, arrival, end, line_of}
 use Rattle.tox_runs.specs.runs.Reading.{HasCause, ReadsWhole}
 
@@ -32,7 +33,8 @@ of_line_unless : (empty : Bool) (arrived : Arrived) (read : Result Arrived DryFa
 of_line_unless true arrived read of_line = tt
 of_line_unless false arrived read of_line = of_line
 
-of_line_then : (first : Result Arrived DryFault) (next : Arrived → Result Arrived DryFault) → IsOfLine first → ((arrived : Arrived) → IsOfLine (next arrived)) → IsOfLine (first >>= next)
+of_line_then : (first : Result Arrived DryFault) (next : Arrived → Result Arrived DryFault) → IsOfLine first → ((arrived : Arrived) → IsOfLine (next arrived))
+    → IsOfLine (first >>= next)
 of_line_then (Ok arrived) next first_of next_of = next_of arrived
 of_line_then (Err fault) next first_of next_of = first_of
 

@@ -9,7 +9,8 @@ use Rattle.tox_network.proofs.EveryRun.{every_rest_delivers}
 use Rattle.tox_text.specs.ResultText.{result_text}
 use Rattle.tox_runs.specs.runs.DryRun.{WritesEveryRest, WritesResult}
 
-pub result_of_every_rest : (chain : Toxics) (words : List ℕ) (before after old new : Option (List ℕ)) → WritesResult chain words before after old new → WritesEveryRest chain words before after old new
+pub result_of_every_rest : (chain : Toxics) (words : List ℕ) (before after old new : Option (List ℕ)) → WritesResult chain words before after old new
+    → WritesEveryRest chain words before after old new
 result_of_every_rest chain words before after old new wrote = record {
   arrived = wrote.arrived;
   read = wrote.read;

@@ -1,5 +1,6 @@
 -- A text on its way through its second pass: what arrived before the next line, and what the lines that are left add.
-use Rattle.std.proofs.Common.{◌≡◌, ℕ, ◌+◌, ◌<◌, ◌≤◌, ◌^◌, slice_index, append_assoc, List, [], ◌∷◌, ◌++◌, length, Option, Some, Ok, option_map, Any, refl, ap, sym, ◌∙◌, subst, arith, append-nil, length-append}
+use Rattle.std.proofs.Common.{◌≡◌, ℕ, ◌+◌, ◌<◌, ◌≤◌, ◌^◌, slice_index, append_assoc, List, [], ◌∷◌, ◌++◌, length, Option, Some, Ok, option_map, Any, refl, ap}
+use Rattle.std.proofs.Common.{sym, ◌∙◌, subst, arith, append-nil, length-append}
 use denote.Bor.{Bor}
 use Rattle.std.specs.Prelude.{IsOk}
 use Rattle.std.specs.Result.{result_ok}
@@ -39,12 +40,21 @@ pub line_next : (left : Option (Bor (List ℕ))) (rest : Bor (List ℕ)) (line :
 line_next left rest line others is lines = ap (λ left. lines_left (option_map (λ text. text.now) left)) is ∙ lines
 
 -- at first all is left
-pub IsUnderWay-first : (arrived : Arrived) (lines : List (List ℕ)) (stands : ℕ → List Item → Type 0) (window : Pieces) → after_lines 1 lines no_arrivals ≡ Ok arrived → stands 0 arrived.items
+pub IsUnderWay-first : (arrived : Arrived) (lines : List (List ℕ)) (stands : ℕ → List Item → Type 0) (window : Pieces)
+    → after_lines 1 lines no_arrivals ≡ Ok arrived → stands 0 arrived.items
     → window ≡ record { held = []; room = 1; stop = 0 } → IsUnderWay arrived 1 lines stands window arrived.items
-IsUnderWay-first arrived lines stands window rest ready empty = record { before = no_arrivals; rest = rest; items = refl; counted = refl; window_is = empty; ready = ready }
+IsUnderWay-first arrived lines stands window rest ready empty = record {
+  before = no_arrivals;
+  rest = rest;
+  items = refl;
+  counted = refl;
+  window_is = empty;
+  ready = ready;
+}
 
 -- what a data line finds, and what it leaves
-pub record IsAtData (arrived : Arrived) (n : ℕ) (lines : List (List ℕ)) (stands : ℕ → List Item → Type 0) (start : ℕ) (later : List Item) (t : ℕ) (bytes : List ℕ) : Type 1 where
+pub record IsAtData (arrived : Arrived) (n : ℕ) (lines : List (List ℕ)) (stands : ℕ → List Item → Type 0) (start : ℕ) (later : List Item) (t : ℕ)
+    (bytes : List ℕ) : Type 1 where
   pub others : List Item
   pub is : later ≡ chunk_at start (length bytes) t ∷ others
   pub some : 0 < length bytes
@@ -54,8 +64,10 @@ pub record IsAtData (arrived : Arrived) (n : ℕ) (lines : List (List ℕ)) (sta
   pub then : (after : ℕ → List Item → Type 0) (left : Pieces) → after (start + length bytes) others
       → left ≡ record { held = []; room = 1; stop = start + length bytes } → IsUnderWay arrived (n + 1) lines after left others
 
-pub at_data : (arrived : Arrived) (n : ℕ) (left : List (List ℕ)) (line : List ℕ) (lines : List (List ℕ)) (stands : ℕ → List Item → Type 0) (window : Pieces) (later : List Item) (start t : ℕ) (bytes : List ℕ) → AreArrivals arrived
-    → start ≡ window.stop → left ≡ line ∷ lines → line_of line ≡ Some (arrival t bytes) → IsUnderWay arrived n left stands window later → IsAtData arrived n lines stands start later t bytes
+pub at_data : (arrived : Arrived) (n : ℕ) (left : List (List ℕ)) (line : List ℕ) (lines : List (List ℕ)) (stands : ℕ → List Item → Type 0) (window : Pieces)
+    (later : List Item) (start t : ℕ) (bytes : List ℕ) → AreArrivals arrived
+    → start ≡ window.stop → left ≡ line ∷ lines → line_of line ≡ Some (arrival t bytes) → IsUnderWay arrived n left stands window later
+    → IsAtData arrived n lines stands start later t bytes
 at_data arrived n left line lines stands window later start t bytes arrivals starts split is under_way =
     let on : IsUnderWay arrived n (line ∷ lines) stands window later = subst (λ left. IsUnderWay arrived n left stands window later) split under_way in
     let went = bind_ok (after_line n on.before line) (after_lines (n + 1) lines) arrived on.rest in
@@ -66,9 +78,11 @@ at_data arrived n left line lines stands window later start t bytes arrivals sta
     let chunk : Item = chunk_at start (length bytes) t in
     let same_chunk : next_chunk on.before.items (length bytes) t ≡ chunk = ap (λ m. chunk_at m (length bytes) t) (sym stop) in
     let items : went.0.items ≡ on.before.items ++ chunk ∷ [] = ap (λ a. a.items) took.1 ∙ ap (λ c. on.before.items ++ c ∷ []) same_chunk in
-    let whole : on.before.items ++ (chunk ∷ rest.later) ≡ arrived.items = sym (append_assoc on.before.items (chunk ∷ []) rest.later) ∙ ap (λ xs. xs ++ rest.later) (sym items) ∙ rest.items in
+    let whole : on.before.items ++ (chunk ∷ rest.later) ≡ arrived.items = sym (append_assoc on.before.items (chunk ∷ []) rest.later)
+    ∙ ap (λ xs. xs ++ rest.later) (sym items) ∙ rest.items in
     let splits : later ≡ chunk ∷ rest.later = cancel on.before.items later (chunk ∷ rest.later) (on.items ∙ sym whole) in
-    let stream : IsStreamFrom 0 0 (arrival_list (on.before.items ++ (chunk ∷ rest.later))) = subst (λ xs. IsStreamFrom 0 0 (arrival_list xs)) (sym whole) arrivals.list.0 in
+    let stream : IsStreamFrom 0 0 (arrival_list (on.before.items ++ (chunk ∷ rest.later))) =
+    subst (λ xs. IsStreamFrom 0 0 (arrival_list xs)) (sym whole) arrivals.list.0 in
     let span : Span = record { start = start; stop = start + length bytes } in
     let all_bytes : (on.before.bytes ++ bytes) ++ rest.more ≡ arrived.bytes = ap (λ xs. xs ++ rest.more) (sym (ap (λ a. a.bytes) took.1)) ∙ rest.bytes in
     let front : length on.before.bytes ≡ start = on.counted ∙ sym stop in
@@ -79,13 +93,17 @@ at_data arrived n left line lines stands window later start t bytes arrivals sta
       some = fits.1;
       few = omega (arith, stop, fits.2);
       of = λ room. record {
-        of_arrival = λ k within. ap (λ xs. arrival_of xs (start + k)) (sym whole) ∙ arrival_in 0 0 on.before.items rest.later span t k stream (omega (arith, within));
-        at_place = λ k within. ap (λ m. slice_index arrived.bytes (m + k)) (sym front) ∙ bytes_in on.before.bytes bytes rest.more arrived.bytes k all_bytes within;
+        of_arrival = λ k within. ap (λ xs. arrival_of xs (start + k)) (sym whole)
+            ∙ arrival_in 0 0 on.before.items rest.later span t k stream (omega (arith, within));
+        at_place = λ k within. ap (λ m. slice_index arrived.bytes (m + k)) (sym front)
+            ∙ bytes_in on.before.bytes bytes rest.more arrived.bytes k all_bytes within;
         behind = λ same.
             let past = arrival_behind 0 0 on.before.items rest.later span t stream in
-            let there : arrival_of (on.before.items ++ (chunk ∷ rest.later)) (start + length bytes) ≡ start = ap (λ xs. arrival_of xs (start + length bytes)) whole ∙ same in
+            let there : arrival_of (on.before.items ++ (chunk ∷ rest.later)) (start + length bytes) ≡ start =
+            ap (λ xs. arrival_of xs (start + length bytes)) whole ∙ same in
             omega (arith, past, there);
-        edge = λ part lies before. edge_behind 0 0 on.before.items rest.later span t stream part (subst (λ xs. Any (LiesInChunk part) (arrival_list xs)) (sym whole) lies) before;
+        edge = λ part lies before. edge_behind 0 0 on.before.items rest.later span t stream part
+            (subst (λ xs. Any (LiesInChunk part) (arrival_list xs)) (sym whole) lies) before;
       };
       ready = subst (λ m. stands m (chunk ∷ rest.later)) (sym stop) (subst (stands (count_of on.before.items)) splits on.ready);
       then = λ after left_window ready window_after. record {
@@ -101,14 +119,16 @@ at_data arrived n left line lines stands window later start t bytes arrivals sta
     }
 
 -- what a last line finds, and what it leaves
-pub record IsAtLast (arrived : Arrived) (n : ℕ) (lines : List (List ℕ)) (stands : ℕ → List Item → Type 0) (window : Pieces) (later : List Item) (t : ℕ) : Type 1 where
-  pub others : List Item
-  pub position : ℕ
-  pub is : later ≡ Closed t ∷ others
-  pub ready : stands position (Closed t ∷ others)
-  pub then : (after : ℕ → List Item → Type 0) → after position others → IsUnderWay arrived (n + 1) lines after window others
+pub record IsAtLast (arrived : Arrived) (n : ℕ) (lines : List (List ℕ)) (stands : ℕ → List Item → Type 0) (window : Pieces) (later : List Item) (t : ℕ) : Type 1
+  where
+    pub others : List Item
+    pub position : ℕ
+    pub is : later ≡ Closed t ∷ others
+    pub ready : stands position (Closed t ∷ others)
+    pub then : (after : ℕ → List Item → Type 0) → after position others → IsUnderWay arrived (n + 1) lines after window others
 
-pub at_last : (arrived : Arrived) (n : ℕ) (left : List (List ℕ)) (line : List ℕ) (lines : List (List ℕ)) (stands : ℕ → List Item → Type 0) (window : Pieces) (later : List Item) (t : ℕ) → left ≡ line ∷ lines
+pub at_last : (arrived : Arrived) (n : ℕ) (left : List (List ℕ)) (line : List ℕ) (lines : List (List ℕ)) (stands : ℕ → List Item → Type 0) (window : Pieces)
+    (later : List Item) (t : ℕ) → left ≡ line ∷ lines
     → line_of line ≡ Some (end t) → IsUnderWay arrived n left stands window later → IsAtLast arrived n lines stands window later t
 at_last arrived n left line lines stands window later t split is under_way =
     let on : IsUnderWay arrived n (line ∷ lines) stands window later = subst (λ left. IsUnderWay arrived n left stands window later) split under_way in
@@ -116,7 +136,8 @@ at_last arrived n left line lines stands window later t split is under_way =
     let took = end_taken n on.before went.0 t line is went.1 in
     let rest = lines_grow (n + 1) lines went.0 arrived went.2 in
     let items : went.0.items ≡ on.before.items ++ Closed t ∷ [] = ap (λ a. a.items) took.1 in
-    let whole : on.before.items ++ (Closed t ∷ rest.later) ≡ arrived.items = sym (append_assoc on.before.items (Closed t ∷ []) rest.later) ∙ ap (λ xs. xs ++ rest.later) (sym items) ∙ rest.items in
+    let whole : on.before.items ++ (Closed t ∷ rest.later) ≡ arrived.items = sym (append_assoc on.before.items (Closed t ∷ []) rest.later)
+    ∙ ap (λ xs. xs ++ rest.later) (sym items) ∙ rest.items in
     let splits : later ≡ Closed t ∷ rest.later = cancel on.before.items later (Closed t ∷ rest.later) (on.items ∙ sym whole) in
     let counts : count_of went.0.items ≡ count_of on.before.items = ap count_of items ∙ arrived-append on.before.items (Closed t ∷ []) ∙ omega arith in
     record {
@@ -135,21 +156,25 @@ at_last arrived n left line lines stands window later t split is under_way =
     }
 
 -- the digits of a data line are pairs
-pub pairs_there : (arrived : Arrived) (n : ℕ) (left : List (List ℕ)) (line : List ℕ) (lines : List (List ℕ)) (stands : ℕ → List Item → Type 0) (window : Pieces) (later : List Item) (t : ℕ) (digits : List ℕ)
-    → left ≡ line ∷ lines → line_of line ≡ option_map (arrival t) (result_ok (decode_of digits)) → 0 < length line → IsUnderWay arrived n left stands window later → IsOk (decode_of digits)
+pub pairs_there : (arrived : Arrived) (n : ℕ) (left : List (List ℕ)) (line : List ℕ) (lines : List (List ℕ)) (stands : ℕ → List Item → Type 0) (window : Pieces)
+    (later : List Item) (t : ℕ) (digits : List ℕ)
+    → left ≡ line ∷ lines → line_of line ≡ option_map (arrival t) (result_ok (decode_of digits)) → 0 < length line
+    → IsUnderWay arrived n left stands window later → IsOk (decode_of digits)
 pairs_there arrived n left line lines stands window later t digits split says some under_way =
     let on : IsUnderWay arrived n (line ∷ lines) stands window later = subst (λ left. IsUnderWay arrived n left stands window later) split under_way in
     let went = bind_ok (after_line n on.before line) (after_lines (n + 1) lines) arrived on.rest in
     pairs_taken n on.before went.0 t digits line says some went.1
 
 -- nothing is left behind the last line
-pub none_left : (arrived : Arrived) (n : ℕ) (left : List (List ℕ)) (stands : ℕ → List Item → Type 0) (window : Pieces) (later : List Item) → left ≡ [] → IsUnderWay arrived n left stands window later → later ≡ []
+pub none_left : (arrived : Arrived) (n : ℕ) (left : List (List ℕ)) (stands : ℕ → List Item → Type 0) (window : Pieces) (later : List Item) → left ≡ []
+    → IsUnderWay arrived n left stands window later → later ≡ []
 none_left arrived n left stands window later empty on =
     let rest : after_lines n [] on.before ≡ Ok arrived = subst (λ lines. after_lines n lines on.before ≡ Ok arrived) empty on.rest in
     let same : on.before ≡ arrived = cc in
     cancel on.before.items later [] (on.items ∙ sym (ap (λ a. a.items) same) ∙ sym (append-nil on.before.items))
 
 -- and there the source stands
-pub behind_all : (arrived : Arrived) (n : ℕ) (left : List (List ℕ)) (stands : ℕ → List Item → Type 0) (window : Pieces) (later : List Item) → later ≡ [] → IsUnderWay arrived n left stands window later
+pub behind_all : (arrived : Arrived) (n : ℕ) (left : List (List ℕ)) (stands : ℕ → List Item → Type 0) (window : Pieces) (later : List Item) → later ≡ []
+    → IsUnderWay arrived n left stands window later
     → (position : ℕ) × stands position []
 behind_all arrived n left stands window later none on = (count_of on.before.items, subst (stands (count_of on.before.items)) none on.ready)

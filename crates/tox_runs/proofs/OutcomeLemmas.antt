@@ -19,7 +19,8 @@ use Rattle.tox_runs.proofs.PieceLines.{some_first, stands_whole}
 use Rattle.tox_runs.proofs.TextTurns.{lies_within}
 
 -- what is apart starts anew
-StartAnew-next : (arrived : Arrived) (piece : Run) (t stop : ℕ) (slices : List Slice) → IsPieceOf arrived piece → stop ≤ stop_of piece → AreNeighbours (arrival_list arrived.items) stop slices
+StartAnew-next : (arrived : Arrived) (piece : Run) (t stop : ℕ) (slices : List Slice) → IsPieceOf arrived piece → stop ≤ stop_of piece
+    → AreNeighbours (arrival_list arrived.items) stop slices
     → IsApart (stop_of piece) t slices → StartAnew piece.start t (delivered_from arrived stop (slices_table slices))
 StartAnew-next arrived piece t stop [] of within neighbours apart = tt
 StartAnew-next arrived piece t stop (next ∷ slices) of within neighbours apart = elim apart [
@@ -28,13 +29,16 @@ StartAnew-next arrived piece t stop (next ∷ slices) of within neighbours apart
       StartAnew-behind arrived piece.start t stop (slices_table (next ∷ slices)) (subst (λ n. arrival_of arrived.items n ≢ piece.start) (sym over) of.behind)
   | inr other ↦
       let first = some_first (span_len next.span) next.instant (slices_table slices) (omega (arith, neighbours.0, neighbours.1)) in
-      subst (λ later. StartAnew piece.start t (delivered_from arrived stop later)) (sym first.1) (StartAnew-instant arrived piece.start t stop next.instant first.0 other)
+      subst (λ later. StartAnew piece.start t (delivered_from arrived stop later)) (sym first.1)
+      (StartAnew-instant arrived piece.start t stop next.instant first.0 other)
 ]
 
 -- the line of joined slices is the next of what is left
-pub pending_text-joined : (arrived : Arrived) (piece : Run) (position : ℕ) (old : List Slice) (slice : Slice) (new : List Slice) (ending : Ending) → IsPieceOf arrived piece → piece.start ≤ position
+pub pending_text-joined : (arrived : Arrived) (piece : Run) (position : ℕ) (old : List Slice) (slice : Slice) (new : List Slice) (ending : Ending)
+    → IsPieceOf arrived piece → piece.start ≤ position
     → JoinsTo (stop_of piece) (arrival_list arrived.items) position old slice new → IsApart (stop_of piece) slice.instant new
-    → bytes_line slice.instant slice.span.start (bytes_at piece slice.span) ++ pending_text arrived slice.span.stop new ending ≡ pending_text arrived position old ending
+    → bytes_line slice.instant slice.span.start (bytes_at piece slice.span) ++ pending_text arrived slice.span.stop new ending
+    ≡ pending_text arrived position old ending
 pending_text-joined arrived piece position old slice new ending of after joined apart =
     let later = slices_table new in
     let last = ending_line ending in
@@ -45,19 +49,22 @@ pending_text-joined arrived piece position old slice new ending of after joined 
     sym (
     ap (λ ts. lines_text (delivered_from arrived position ts) ++ last) joined.tables
     ∙ ap (λ n. lines_text (delivered_from arrived n (part ++ later)) ++ last) (sym joined.starts)
-    ∙ ap (λ lines. lines ++ last) (lines_text-slice arrived piece slice later (stands_whole arrived piece of) (joined_lies arrived piece position old slice new after joined) some anew)
+    ∙ ap (λ lines. lines ++ last) (lines_text-slice arrived piece slice later (stands_whole arrived piece of)
+    (joined_lies arrived piece position old slice new after joined) some anew)
     ∙ append_assoc line (lines_text (delivered_from arrived slice.span.stop later)) last)
   where
     joined_lies : (arrived : Arrived) (piece : Run) (position : ℕ) (old : List Slice) (slice : Slice) (new : List Slice) → piece.start ≤ position
         → JoinsTo (stop_of piece) (arrival_list arrived.items) position old slice new → LiesIn slice.span piece
-    joined_lies arrived piece position old slice new after joined = record { from_start = omega (arith, joined.starts, after); in_order = omega (arith, joined.starts, joined.some); to_stop = joined.within }
+    joined_lies arrived piece position old slice new after joined = record
+        { from_start = omega (arith, joined.starts, after); in_order = omega (arith, joined.starts, joined.some); to_stop = joined.within }
 
 -- slices that are left within a piece
 pub record IsPrinting (arrived : Arrived) (piece : Run) (start : ℕ) (slices : List Slice) : Type 0 where
   pub neighbours : AreNeighbours (arrival_list arrived.items) start slices
   pub within : (slices ≡ []) ⊎ ((piece.start ≤ start) × (start ≤ stop_of piece))
 
-no_slices : (old : List Slice) (slice : Slice) (later : List ℕ) → slices_table old ≡ replicate (span_len slice.span) slice.instant ++ later → slice.span.start < slice.span.stop → old ≢ []
+no_slices : (old : List Slice) (slice : Slice) (later : List ℕ) → slices_table old ≡ replicate (span_len slice.span) slice.instant ++ later
+    → slice.span.start < slice.span.stop → old ≢ []
 no_slices old slice later tables some none =
     let first = some_first (span_len slice.span) slice.instant later (omega (arith, some)) in
     let nothing : slices_table old ≡ [] = ap slices_table none in
@@ -85,7 +92,8 @@ IsPrinting-next arrived piece start old slice new printing joined =
     record { neighbours = joined.neighbours; within = inr (omega (arith, after, joined.some), joined.within) }
 
 -- where no slice starts in the piece the next one is come to
-pub IsPending-next : (arrived : Arrived) (piece : Run) (first start : ℕ) (whole slices : List Slice) (later : List Item) → IsPending whole first arrived piece.start (chunk_of piece ∷ later)
+pub IsPending-next : (arrived : Arrived) (piece : Run) (first start : ℕ) (whole slices : List Slice) (later : List Item)
+    → IsPending whole first arrived piece.start (chunk_of piece ∷ later)
     → IsPrinting arrived piece start slices → StartsBehind (stop_of piece) slices → IsPending slices start arrived (stop_of piece) later
 IsPending-next arrived piece first start whole slices later pending printing behind = record {
   neighbours = printing.neighbours;

@@ -1,5 +1,6 @@
 -- The table of a toxic nests two levels at most, where it is accepted.
-use Rattle.std.proofs.Common.{◌≡◌, ℕ, Bool, true, false, cond, ◌||◌, List, [], ◌∷◌, codes, map, Option, Some, None, option_and_then, option_map, unwrap_or, Result, Ok, Err, ok_or, refl, sym, ◌∙◌, arith}
+use Rattle.std.proofs.Common.{◌≡◌, ℕ, Bool, true, false, cond, ◌||◌, List, [], ◌∷◌, codes, map, Option, Some, None, option_and_then, option_map, unwrap_or}
+use Rattle.std.proofs.Common.{Result, Ok, Err, ok_or, refl, sym, ◌∙◌, arith}
 use Rattle.std.proofs.lemmas.Slice.Eq.{bytes_eq-Decides}
 use Rattle.std.specs.Str.{bytes_eq}
 use Rattle.toml.specs.Data.{Data, string, integer, float, boolean, datetime, array, table, Members, as_str, get, get_member, is_sorted, members_are_sorted}
@@ -12,7 +13,8 @@ use Rattle.tox_time.proofs.Steps.{bind_ok, map_err_ok, ok_or_ok, passing_some}
 use Rattle.tox_script.specs.fields.Attributes.{all_some, toxic_with, value_in, values_in}
 use Rattle.tox_script.specs.fields.Fields.{has_only, is_among, is_between, is_table, natural, needed, optional, whole}
 use Rattle.tox_script.specs.chains.Toxic.{NamedToxic, default_name, named_toxic}
-use Rattle.tox_script.specs.fields.ToxicFields.{ToxicFields, attributes_field, is_plain, name_field, plain_name, stream_field, stream_text, toxic_fields, type_field}
+use Rattle.tox_script.specs.fields.ToxicFields.{ToxicFields, attributes_field, is_plain, name_field, plain_name, stream_field, stream_text, toxic_fields}
+use Rattle.tox_script.specs.fields.ToxicFields.{type_field}
 use Rattle.tox_script.specs.fields.Toxicity.{is_decimal, written_toxicity, toxicity_in}
 use Rattle.tox_script.specs.chains.Toxics.{toxic_at}
 use Rattle.tox_script.specs.declared.fault.Field.{Field}
@@ -32,7 +34,8 @@ abbrev pub AtEach : (List ℕ → Type 0) → List (List ℕ) → Type 0
 AtEach P [] = Unit {0}
 AtEach P (text ∷ texts) = P text × AtEach P texts
 
-either : (P : List ℕ → Type 0) (text key : List ℕ) (rest : Bool) (same : Bool) → bytes_eq text key ≡ same → (same || rest) ≡ true → P text → (rest ≡ true → P key) → P key
+either : (P : List ℕ → Type 0) (text key : List ℕ) (rest : Bool) (same : Bool) → bytes_eq text key ≡ same → (same || rest) ≡ true → P text
+    → (rest ≡ true → P key) → P key
 either P text key rest true is any here others = let one : text ≡ key = (bytes_eq-Decides text key).0 is in rw (← one) here
 either P text key rest false is any here others = others any
 
@@ -103,7 +106,8 @@ pub record AreAttributes (zeros : AnyToxic) (d : Data) : Type 0 where
   pub known : has_only (attributes_of zeros) d ≡ true
   pub values : AtEach (HasValue (value_in (Some d))) (attributes_of zeros)
 
-attributes_read : (zeros : AnyToxic) (d : Data) (known : Bool) (values : Option (List ℕ)) (toxic : AnyToxic) → has_only (attributes_of zeros) d ≡ known → values_in zeros (Some d) ≡ values
+attributes_read : (zeros : AnyToxic) (d : Data) (known : Bool) (values : Option (List ℕ)) (toxic : AnyToxic) → has_only (attributes_of zeros) d ≡ known
+    → values_in zeros (Some d) ≡ values
     → cond known (ok_or values OutOfRange >>= (λ vs. checked (with_values zeros vs))) (Err UnknownAttribute) ≡ Ok toxic → AreAttributes zeros d
 attributes_read zeros d false values toxic known all is = absurd (cc)
 attributes_read zeros d true None toxic known all is = absurd (cc)
@@ -114,7 +118,8 @@ value_scalar : (ms : Members) (key : List ℕ) (e : Data) → HasValue (value_in
 value_scalar ms key e has found = whole_scalar e has.0 (rw found at has.1)
 
 -- a table of accepted attributes has whole numbers alone
-attributes_shallow : (zeros : AnyToxic) (d : Data) (toxic : AnyToxic) → is_table d ≡ true → toxic_with zeros (Some d) ≡ Ok toxic → is_sorted d ≡ true → IsShallow 1 d
+attributes_shallow : (zeros : AnyToxic) (d : Data) (toxic : AnyToxic) → is_table d ≡ true → toxic_with zeros (Some d) ≡ Ok toxic → is_sorted d ≡ true
+    → IsShallow 1 d
 attributes_shallow zeros (string s) toxic is gives sorted = absurd (cc)
 attributes_shallow zeros (integer z) toxic is gives sorted = absurd (cc)
 attributes_shallow zeros (float f) toxic is gives sorted = absurd (cc)
@@ -125,7 +130,8 @@ attributes_shallow zeros (table ms) toxic is gives sorted =
     let read = attributes_read zeros (table ms) (has_only (attributes_of zeros) (table ms)) (values_in zeros (Some (table ms))) toxic refl refl gives in
     let all = MembersAreShallow-each 0 ms sorted
     (λ key e found here. IsShallow-scalar 0 e
-    (value_scalar ms key e (AtEach-among (HasValue (value_in (Some (table ms)))) (attributes_of zeros) key read.values (is_among-found (attributes_of zeros) ms key e read.known found)) found)) in
+    (value_scalar ms key e (AtEach-among (HasValue (value_in (Some (table ms)))) (attributes_of zeros) key read.values
+    (is_among-found (attributes_of zeros) ms key e read.known found)) found)) in
     record { deep = omega (arith, all.deep); dates = all.dates }
 
 -- the keys of a toxic's table
@@ -145,9 +151,11 @@ abbrev fields_with : Option (List ℕ) → List ℕ → Stream → Option Data �
 fields_with name type_name stream attributes toxicity =
     record { name = name; type_name = type_name; stream = stream; toxicity = toxicity; attributes = attributes }
 
-AreFields-read : (d : Data) (name : Result (Option (List ℕ)) Field) (type_name : Result (List ℕ) Field) (stream : Result Stream Field) (attributes : Result (Option Data) Field) (known : Bool) (fields : ToxicFields)
+AreFields-read : (d : Data) (name : Result (Option (List ℕ)) Field) (type_name : Result (List ℕ) Field) (stream : Result Stream Field)
+    (attributes : Result (Option Data) Field) (known : Bool) (fields : ToxicFields)
     → name_field d ≡ name → type_field d ≡ type_name → stream_field d ≡ stream → attributes_field d ≡ attributes → has_only toxic_keys d ≡ known
-    → (name >>= (λ n. type_name >>= (λ t. stream >>= (λ s. attributes >>= (λ a. cond known (Ok (fields_with n t s a (get (codes "toxicity") d))) (Err field.Unknown)))))) ≡ Ok fields
+    → (name >>= (λ n. type_name >>= (λ t. stream >>= (λ s. attributes >>=
+    (λ a. cond known (Ok (fields_with n t s a (get (codes "toxicity") d))) (Err field.Unknown)))))) ≡ Ok fields
     → AreFields d fields
 AreFields-read d (Err e) type_name stream attributes known fields en et es ea ek is = absurd (cc)
 AreFields-read d (Ok n) (Err e) stream attributes known fields en et es ea ek is = absurd (cc)
@@ -174,44 +182,54 @@ named_with fields toxicity toxic = record {
   is_decimal = is_decimal fields.toxicity;
 }
 
-IsNamed-last : (version : Version) (fields : ToxicFields) (zeros : AnyToxic) (toxicity : ℕ) (toxic : Result AnyToxic ToxicFault) (named : NamedToxic) → toxicity_in version fields.toxicity ≡ Some toxicity
+IsNamed-last : (version : Version) (fields : ToxicFields) (zeros : AnyToxic) (toxicity : ℕ) (toxic : Result AnyToxic ToxicFault) (named : NamedToxic)
+    → toxicity_in version fields.toxicity ≡ Some toxicity
     → toxic_with zeros fields.attributes ≡ toxic → (toxic >>= (λ x. Ok (named_with fields toxicity x))) ≡ Ok named → IsNamed version fields
 IsNamed-last version fields zeros toxicity (Err e) named et ex is = absurd (cc)
 IsNamed-last version fields zeros toxicity (Ok x) named et ex is = record { zeros = zeros; toxicity = toxicity; toxic = x; is_toxicity = et; is_toxic = ex }
 
-pub IsNamed-read : (version : Version) (fields : ToxicFields) (zeros : Option AnyToxic) (toxicity : Option ℕ) (named : NamedToxic) → toxicity_in version fields.toxicity ≡ toxicity
-    → (ok_or zeros UnknownType >>= (λ k. ok_or toxicity ToxicityNotThousandths >>= (λ t. toxic_with k fields.attributes >>= (λ x. Ok (named_with fields t x))))) ≡ Ok named → IsNamed version fields
+pub IsNamed-read : (version : Version) (fields : ToxicFields) (zeros : Option AnyToxic) (toxicity : Option ℕ) (named : NamedToxic)
+    → toxicity_in version fields.toxicity ≡ toxicity
+    → (ok_or zeros UnknownType >>= (λ k. ok_or toxicity ToxicityNotThousandths >>= (λ t. toxic_with k fields.attributes >>= (λ x. Ok (named_with fields t x)))))
+    ≡ Ok named → IsNamed version fields
 IsNamed-read version fields None toxicity named et is = absurd (cc)
 IsNamed-read version fields (Some zeros) None named et is = absurd (cc)
-IsNamed-read version fields (Some zeros) (Some toxicity) named et is = IsNamed-last version fields zeros toxicity (toxic_with zeros fields.attributes) named et refl is
+IsNamed-read version fields (Some zeros) (Some toxicity) named et is = IsNamed-last version fields zeros toxicity (toxic_with zeros fields.attributes) named et
+    refl is
 
 -- what a value of a toxic's table is, where a key finds it
 abbrev pub IsFound : ℕ → Members → List ℕ → Type 0
 IsFound levels ms key = (e : Data) → get_member key ms ≡ Some e → is_sorted e ≡ true → IsShallow levels e
 
-attributes_found : (ms : Members) (fields : ToxicFields) (zeros : AnyToxic) (toxic : AnyToxic) (e : Data) → attributes_field (table ms) ≡ Ok fields.attributes → toxic_with zeros fields.attributes ≡ Ok toxic
+attributes_found : (ms : Members) (fields : ToxicFields) (zeros : AnyToxic) (toxic : AnyToxic) (e : Data) → attributes_field (table ms) ≡ Ok fields.attributes
+    → toxic_with zeros fields.attributes ≡ Ok toxic
     → get_member (codes "attributes") ms ≡ Some e → is_sorted e ≡ true → IsShallow 1 e
 attributes_found ms fields zeros toxic e read gives found sorted =
     let (y, passes, is) = optional_read field.Attributes (passing is_table) (get (codes "attributes") (table ms)) e fields.attributes found read in
     let (tested, same) = passing_some e y (is_table e) passes in
     attributes_shallow zeros e toxic tested (rw (is, ← same) at gives) sorted
 
-members_shallow : (version : Version) (ms : Members) (fields : ToxicFields) → AreFields (table ms) fields → IsNamed version fields → members_are_sorted ms ≡ true → MembersAreShallow 1 ms
+members_shallow : (version : Version) (ms : Members) (fields : ToxicFields) → AreFields (table ms) fields → IsNamed version fields
+    → members_are_sorted ms ≡ true → MembersAreShallow 1 ms
 members_shallow version ms fields read named sorted =
     let name : IsFound 1 ms (codes "name") = λ e found here.
     let (y, gives, is) = optional_read field.Name plain_name (get (codes "name") (table ms)) e fields.name found read.name in
     IsShallow-scalar 1 e (plain_scalar e y gives) in
     let type_name : IsFound 1 ms (codes "type") = λ e found here.
-    IsShallow-scalar 1 e (text_scalar e fields.type_name (needed_read field.Type as_str (get (codes "type") (table ms)) e fields.type_name found read.type_name)) in
+    IsShallow-scalar 1 e (text_scalar e fields.type_name (needed_read field.Type as_str (get (codes "type") (table ms)) e fields.type_name found
+    read.type_name)) in
     let stream : IsFound 1 ms (codes "stream") = λ e found here.
-    let (s, gives, is) = bind_ok (optional field.Stream stream_text (get (codes "stream") (table ms))) (λ s. Ok (unwrap_or s Downstream)) fields.stream read.stream in
+    let (s, gives, is) = bind_ok (optional field.Stream stream_text (get (codes "stream") (table ms))) (λ s. Ok (unwrap_or s Downstream)) fields.stream
+    read.stream in
     let (y, text, same) = optional_read field.Stream stream_text (get (codes "stream") (table ms)) e s found gives in
     IsShallow-scalar 1 e (stream_scalar e y text) in
     let toxicity : IsFound 1 ms (codes "toxicity") = λ e found here.
     IsShallow-scalar 1 e (toxicity_scalar version fields.toxicity e named.toxicity (sym read.toxicity ∙ found) named.is_toxicity) in
-    let attributes : IsFound 1 ms (codes "attributes") = λ e found here. attributes_found ms fields named.zeros named.toxic e read.attributes named.is_toxic found here in
+    let attributes : IsFound 1 ms (codes "attributes") = λ e found here.
+    attributes_found ms fields named.zeros named.toxic e read.attributes named.is_toxic found here in
     MembersAreShallow-each 1 ms sorted
-    (λ key e found here. AtEach-among (IsFound 1 ms) toxic_keys key (name, (type_name, (stream, (toxicity, (attributes, tt))))) (is_among-found toxic_keys ms key e read.known found) e found here)
+    (λ key e found here. AtEach-among (IsFound 1 ms) toxic_keys key (name, (type_name, (stream, (toxicity, (attributes, tt)))))
+    (is_among-found toxic_keys ms key e read.known found) e found here)
 
 -- the table of an accepted toxic nests two levels
 pub toxic_shallow : (version : Version) (at : Location) (d : Data) (toxic : NamedToxic) → toxic_at version at d ≡ Ok toxic → is_sorted d ≡ true → IsShallow 2 d
@@ -223,8 +241,11 @@ toxic_shallow version at (datetime dt) toxic is sorted = absurd (cc)
 toxic_shallow version at (array ds) toxic is sorted = absurd (cc)
 toxic_shallow version at (table ms) toxic is sorted =
     let d : Data = table ms in
-    let (fields, was_read, was_named) = bind_ok (map_err (fault.Field at) (toxic_fields d)) (λ fields. map_err (fault.Toxic at) (named_toxic version fields)) toxic is in
-    let read = AreFields-read d (name_field d) (type_field d) (stream_field d) (attributes_field d) (has_only toxic_keys d) fields refl refl refl refl refl (map_err_ok (fault.Field at) (toxic_fields d) fields was_read) in
-    let named = IsNamed-read version fields (toxic_named fields.type_name) (toxicity_in version fields.toxicity) toxic refl (map_err_ok (fault.Toxic at) (named_toxic version fields) toxic was_named) in
+    let (fields, was_read, was_named) = bind_ok (map_err (fault.Field at) (toxic_fields d)) (λ fields. map_err (fault.Toxic at) (named_toxic version fields))
+    toxic is in
+    let read = AreFields-read d (name_field d) (type_field d) (stream_field d) (attributes_field d) (has_only toxic_keys d) fields refl refl refl refl refl
+    (map_err_ok (fault.Field at) (toxic_fields d) fields was_read) in
+    let named = IsNamed-read version fields (toxic_named fields.type_name) (toxicity_in version fields.toxicity) toxic refl
+    (map_err_ok (fault.Toxic at) (named_toxic version fields) toxic was_named) in
     let all = members_shallow version ms fields read named sorted in
     record { deep = omega (arith, all.deep); dates = all.dates }

@@ -1,5 +1,6 @@
 -- Toxics in the file's order against the same toxics by their streams.
-use Rattle.std.proofs.Common.{◌≡◌, ℕ, ◌+◌, Bool, true, false, cond, ◌||◌, List, [], ◌∷◌, ◌++◌, Ok, Err, length, map, filter, count_by, leb, refl, sym, ap, ◌∙◌, append-nil, length-append}
+use Rattle.std.proofs.Common.{◌≡◌, ℕ, ◌+◌, Bool, true, false, cond, ◌||◌, List, [], ◌∷◌, ◌++◌, Ok, Err, length, map, filter, count_by, leb, refl, sym, ap, ◌∙◌}
+use Rattle.std.proofs.Common.{append-nil, length-append}
 use Rattle.std.specs.List.{list_any}
 use Rattle.std.specs.Str.{bytes_eq}
 use Rattle.std.proofs.lemmas.List.{length-map, map-append}
@@ -42,7 +43,8 @@ module _ (lanes : Lanes) where
   has_name-chains_of name (toxic ∷ toxics) = at toxic.stream ∙ ap (λ others. bytes_eq toxic.name name || others) (has_name-chains_of name toxics)
     where
       at : (stream : Stream) → (any_named name (cond (same_stream Upstream stream) (toxic ∷ filter (is_on Upstream) toxics) (filter (is_on Upstream) toxics))
-          || any_named name (cond (same_stream Downstream stream) (toxic ∷ filter (is_on Downstream) toxics) (filter (is_on Downstream) toxics))) ≡ (bytes_eq toxic.name name || has_name name (chains_of lanes toxics))
+          || any_named name (cond (same_stream Downstream stream) (toxic ∷ filter (is_on Downstream) toxics) (filter (is_on Downstream) toxics)))
+          ≡ (bytes_eq toxic.name name || has_name name (chains_of lanes toxics))
       at Upstream = or_first (bytes_eq toxic.name name) (any_named name (filter (is_on Upstream) toxics)) (any_named name (filter (is_on Downstream) toxics))
       at Downstream = or_middle (bytes_eq toxic.name name) (any_named name (filter (is_on Upstream) toxics)) (any_named name (filter (is_on Downstream) toxics))
 
@@ -52,7 +54,8 @@ module _ (lanes : Lanes) where
   on-chains_of Downstream toxics = refl
 
   -- a chain is full where each lane has a toxic of its stream
-  is_full-chains_of : (stream : Stream) (toxics : List NamedToxic) → is_full (on stream (chains_of lanes toxics)).chain ≡ leb (lane_count lanes) (count_by (is_on stream) toxics)
+  is_full-chains_of : (stream : Stream) (toxics : List NamedToxic) → is_full (on stream (chains_of lanes toxics)).chain
+      ≡ leb (lane_count lanes) (count_by (is_on stream) toxics)
   is_full-chains_of stream toxics =
       ap (λ (chain : NamedToxics). is_full chain.chain) (on-chains_of stream toxics)
       ∙ ap (leb (lane_count lanes)) (
@@ -67,7 +70,8 @@ module _ (lanes : Lanes) where
   }
 
   -- one more toxic behind those of a chain
-  chain_from-append : (toxics : List NamedToxic) (toxic : NamedToxic) → chain_from (toxics ++ toxic ∷ []) ≡ with_toxic toxic.entry toxic.name (chain_from toxics)
+  chain_from-append : (toxics : List NamedToxic) (toxic : NamedToxic) → chain_from (toxics ++ toxic ∷ [])
+      ≡ with_toxic toxic.entry toxic.name (chain_from toxics)
   chain_from-append toxics toxic =
       let entries = map-append (λ (t : NamedToxic). t.entry) toxics (toxic ∷ []) in
       let names = map-append (λ (t : NamedToxic). t.name) toxics (toxic ∷ []) in
@@ -91,7 +95,8 @@ module _ (lanes : Lanes) where
       rw (one, other) refl
 
   -- one more toxic of a rule joins the chain of its stream alone
-  pushed-chains_of : (toxics : List NamedToxic) (toxic : NamedToxic) → pushed toxic.stream toxic.entry toxic.name (chains_of lanes toxics) ≡ chains_of lanes (toxics ++ toxic ∷ [])
+  pushed-chains_of : (toxics : List NamedToxic) (toxic : NamedToxic) → pushed toxic.stream toxic.entry toxic.name (chains_of lanes toxics)
+      ≡ chains_of lanes (toxics ++ toxic ∷ [])
   pushed-chains_of toxics toxic =
       let ups = filter-append (is_on Upstream) toxics (toxic ∷ []) in
       let downs = filter-append (is_on Downstream) toxics (toxic ∷ []) in
@@ -115,14 +120,18 @@ module _ (lanes : Lanes) where
       cases false false = refl
 
   -- a toxic that stands behind the earlier ones is the last
-  pub toxics-behind : (at : Location) (earlier : List NamedToxic) (toxic : NamedToxic) (toxics : List NamedToxic) → behind lanes at earlier toxic ≡ Ok toxics → toxics ≡ earlier ++ toxic ∷ []
-  toxics-behind at earlier toxic toxics = cases (list_any (λ other. bytes_eq other.name toxic.name) earlier) (leb (lane_count lanes) (count_by (is_on toxic.stream) earlier))
+  pub toxics-behind : (at : Location) (earlier : List NamedToxic) (toxic : NamedToxic) (toxics : List NamedToxic) → behind lanes at earlier toxic ≡ Ok toxics
+      → toxics ≡ earlier ++ toxic ∷ []
+  toxics-behind at earlier toxic toxics = cases (list_any (λ other. bytes_eq other.name toxic.name) earlier)
+      (leb (lane_count lanes) (count_by (is_on toxic.stream) earlier))
     where
-      cases : (named full : Bool) → cond named (Err (DoubleName at)) (cond full (Err (TooManyToxics at)) (Ok (earlier ++ toxic ∷ []))) ≡ Ok toxics → toxics ≡ earlier ++ toxic ∷ []
+      cases : (named full : Bool) → cond named (Err (DoubleName at)) (cond full (Err (TooManyToxics at)) (Ok (earlier ++ toxic ∷ []))) ≡ Ok toxics
+          → toxics ≡ earlier ++ toxic ∷ []
       cases true full is = absurd (cc)
       cases false true is = absurd (cc)
       cases false false is = cc
 
   -- a toxic that stands behind the earlier ones is one more
-  pub length-behind : (at : Location) (earlier : List NamedToxic) (toxic : NamedToxic) (toxics : List NamedToxic) → behind lanes at earlier toxic ≡ Ok toxics → length toxics ≡ length earlier + 1
+  pub length-behind : (at : Location) (earlier : List NamedToxic) (toxic : NamedToxic) (toxics : List NamedToxic) → behind lanes at earlier toxic ≡ Ok toxics
+      → length toxics ≡ length earlier + 1
   length-behind at earlier toxic toxics is = ap length (toxics-behind at earlier toxic toxics is) ∙ length-append earlier (toxic ∷ [])

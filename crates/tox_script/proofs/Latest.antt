@@ -12,7 +12,8 @@ below_most most (step ∷ steps) down zero d within = down.0
 below_most most (step ∷ steps) down (suc j) d within = let h = below_most step.first steps down.1 j d (omega arith) in let k = down.0 in omega arith
 
 -- no step begins behind an earlier one of the list
-descending : (most : ℕ) (steps : List Step) → Descends most steps → (i j : ℕ) (d : Step) → i ≤ j → j < length steps → (get_or steps j d).first ≤ (get_or steps i d).first
+descending : (most : ℕ) (steps : List Step) → Descends most steps → (i j : ℕ) (d : Step) → i ≤ j → j < length steps
+    → (get_or steps j d).first ≤ (get_or steps i d).first
 descending most [] down i j d by within = absurd (omega arith)
 descending most (step ∷ steps) down zero zero d by within = omega arith
 descending most (step ∷ steps) down zero (suc j) d by within = below_most step.first steps down.1 j d (omega arith)
@@ -34,7 +35,11 @@ module _ (conn : ℕ) where
       × ((k : ℕ) (d : Step) → i ≤ k → k < length steps → ltb conn (get_or steps k d).first ≡ false)
 
   Later-rest : (step : Step) (steps : List Step) (i : ℕ) → Later (step ∷ steps) (suc i) → Later steps i
-  Later-rest step steps i later = (λ k d from below. later.0 (suc k) d (omega arith) (omega arith), λ k d from below. later.1 (suc k) d (omega arith) (omega arith))
+  Later-rest step steps i later = (
+    λ k d from below. later.0 (suc k) d (omega arith) (omega arith),
+    λ k d from below.
+        later.1 (suc k) d (omega arith) (omega arith),
+  )
 
   passed : (step : Step) (steps : List Step) (i : ℕ) → Later (step ∷ steps) (suc i) → rule_at conn (step ∷ steps) ≡ rule_at conn steps
   passed step steps i later =

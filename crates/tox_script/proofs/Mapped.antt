@@ -7,7 +7,8 @@ pub find-map : {X Y : Type 0} (test : Y → Bool) (f : X → Y) (xs : List X) �
 find-map test f [] = refl
 find-map test f (x ∷ xs) = at (test (f x)) (find-map test f xs)
   where
-    at : (passes : Bool) → option_map f (find (λ y. test (f y)) xs) ≡ find test (map f xs) → option_map f (cond passes (Some x) (find (λ y. test (f y)) xs)) ≡ cond passes (Some (f x)) (find test (map f xs))
+    at : (passes : Bool) → option_map f (find (λ y. test (f y)) xs) ≡ find test (map f xs)
+        → option_map f (cond passes (Some x) (find (λ y. test (f y)) xs)) ≡ cond passes (Some (f x)) (find test (map f xs))
     at true others = refl
     at false others = others
 

@@ -1,5 +1,6 @@
 -- A script of version 1, and the document of version 2 that is made of it.
-use Rattle.std.proofs.Common.{◌≡◌, ℕ, ◌≤◌, Bool, true, false, cond, List, [], codes, Option, Some, None, option_map, unwrap_or, Result, Ok, Err, refl, sym, ap, ◌∙◌, arith}
+use Rattle.std.proofs.Common.{◌≡◌, ℕ, ◌≤◌, Bool, true, false, cond, List, [], codes, Option, Some, None, option_map, unwrap_or, Result, Ok, Err, refl, sym, ap}
+use Rattle.std.proofs.Common.{◌∙◌, arith}
 use Rattle.std.specs.List.{find}
 use Rattle.std.specs.Str.{IsUtf8}
 use Rattle.toml.specs.Data.{Data, array, table, Items, no_items, get, members_depth, members_have_valid_dates, is_sorted}
@@ -50,19 +51,22 @@ settings_read d settings is version =
     let (v, was_version, rest) = bind_ok (version_of d) (λ v. lanes_of v d >>= (λ l. Ok (record { version = v; lanes = l }))) settings is in
     at v (lanes_of v d) refl rest
   where
-    at : (v : Version) (lanes : Result Lanes Field) → lanes_of v d ≡ lanes → (lanes >>= (λ l. Ok (record { version = v; lanes = l }))) ≡ Ok settings → settings ≡ in_version Sixteen One
+    at : (v : Version) (lanes : Result Lanes Field) → lanes_of v d ≡ lanes → (lanes >>= (λ l. Ok (record { version = v; lanes = l }))) ≡ Ok settings
+        → settings ≡ in_version Sixteen One
     at v (Err e) reported is = absurd (cc)
     at Two (Ok l) reported is = absurd (cc)
     at One (Ok l) reported is = cc
 
-fields_read : (d : Data) (settings : Result Settings Field) (rules : Result Items Field) (known : Version → Bool) (fields : DocumentFields) → settings_of d ≡ settings → tables_of field.Rule (get (codes "rule") d) ≡ rules
+fields_read : (d : Data) (settings : Result Settings Field) (rules : Result Items Field) (known : Version → Bool) (fields : DocumentFields)
+    → settings_of d ≡ settings → tables_of field.Rule (get (codes "rule") d) ≡ rules
     → (settings >>= (λ s. rules >>= (λ r. cond (known s.version) (Ok (record { settings = s; rules = r })) (Err field.Unknown)))) ≡ Ok fields
     → (settings_of d ≡ Ok fields.settings) × (tables_of field.Rule (get (codes "rule") d) ≡ Ok fields.rules)
 fields_read d (Err e) rules known fields es er is = absurd (cc)
 fields_read d (Ok s) (Err e) known fields es er is = absurd (cc)
 fields_read d (Ok s) (Ok r) known fields es er is = at (known s.version) is
   where
-    at : (passes : Bool) → cond passes (Ok (record { settings = s; rules = r })) (Err field.Unknown) ≡ Ok fields → (settings_of d ≡ Ok fields.settings) × (tables_of field.Rule (get (codes "rule") d) ≡ Ok fields.rules)
+    at : (passes : Bool) → cond passes (Ok (record { settings = s; rules = r })) (Err field.Unknown) ≡ Ok fields
+        → (settings_of d ≡ Ok fields.settings) × (tables_of field.Rule (get (codes "rule") d) ≡ Ok fields.rules)
     at false is = absurd (cc)
     at true is = let one : s ≡ fields.settings = cc in let other : r ≡ fields.rules = cc in (rw (← one) es, rw (← other) er)
 
@@ -72,9 +76,13 @@ read_alike s t ds rules others same alike is = rw (← same, ← alike) is
 pub IsVersion1-read : (d : Data) (script : Rules) → script_in (Some d) ≡ Ok script → script.settings.version ≡ One → IsVersion1 d script
 IsVersion1-read d script is version =
     let at : Location = record { rule = 0; toxic = 0 } in
-    let (fields, was_fields, rest) = bind_ok (map_err (fault.Field at) (document_fields d)) (λ (fields : DocumentFields). rules_from fields.settings [] fields.rules >>= (λ rules. Ok (record { settings = fields.settings; rules = rules }))) script is in
-    let (rules, was_rules, made) = bind_ok (rules_from fields.settings [] fields.rules) (λ rules. Ok (record { settings = fields.settings; rules = rules })) script rest in
-    let read = fields_read d (settings_of d) (tables_of field.Rule (get (codes "rule") d)) (λ v. has_only (document_keys v) d) fields refl refl (map_err_ok (fault.Field at) (document_fields d) fields was_fields) in
+    let (fields, was_fields, rest) = bind_ok (map_err (fault.Field at) (document_fields d))
+    (λ (fields : DocumentFields). rules_from fields.settings [] fields.rules >>= (λ rules. Ok (record { settings = fields.settings; rules = rules })))
+    script is in
+    let (rules, was_rules, made) = bind_ok (rules_from fields.settings [] fields.rules) (λ rules. Ok (record { settings = fields.settings; rules = rules }))
+    script rest in
+    let read = fields_read d (settings_of d) (tables_of field.Rule (get (codes "rule") d)) (λ v. has_only (document_keys v) d) fields refl refl
+    (map_err_ok (fault.Field at) (document_fields d) fields was_fields) in
     let same : fields.settings ≡ script.settings = cc in
     let same_rules : rules ≡ script.rules = cc in
     let settings = settings_read d fields.settings read.0 (ap (λ (s : Settings). s.version) same ∙ version) in
@@ -95,7 +103,8 @@ version_2-shallow d script old sorted =
     rw old.rules (omega (arith, all.deep), rw all.dates refl)
 
 -- and reads as the same rules
-pub version_2-read : (d : Data) (script : Rules) → IsVersion1 d script → script_in (Some (table (version_2 (rules_in d)))) ≡ Ok (record { settings = in_version Sixteen Two; rules = script.rules })
+pub version_2-read : (d : Data) (script : Rules) → IsVersion1 d script → script_in (Some (table (version_2 (rules_in d))))
+    ≡ Ok (record { settings = in_version Sixteen Two; rules = script.rules })
 version_2-read d script old =
     let rules = rules_two Sixteen [] old.tables script.rules old.read in
     rw (old.rules, old.are_tables, rules) refl
@@ -107,7 +116,8 @@ toxics_for-same script proxy conn stream is =
     ap (λ (settings : Settings). on stream (chains_in settings.lanes (find (covers proxy conn) script.rules))) (sym is)
 
 -- so its text is the migrated one
-pub IsMigrated-read : (old migrated : List ℕ) (d : Data) (script : Rules) → toml_of old ≡ Some d → script_in (Some d) ≡ Ok script → script.settings.version ≡ One
+pub IsMigrated-read : (old migrated : List ℕ) (d : Data) (script : Rules) → toml_of old ≡ Some d → script_in (Some d) ≡ Ok script
+    → script.settings.version ≡ One
     → IsUtf8 migrated → parse_document migrated ≡ Some (version_2 (rules_in d)) → IsMigrated old migrated
 IsMigrated-read old migrated d script reported read version text parsed =
     let one = IsVersion1-read d script read version in

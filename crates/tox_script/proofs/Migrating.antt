@@ -36,8 +36,10 @@ toxicity_two (Some d) n is = written_two d n is
 named_two : (fields : ToxicFields) (named : NamedToxic) → named_toxic One fields ≡ Ok named → named_toxic Two fields ≡ Ok named
 named_two fields named is =
     let read = IsNamed-read One fields (toxic_named fields.type_name) (toxicity_in One fields.toxicity) named refl is in
-    let same : toxicity_in Two fields.toxicity ≡ toxicity_in One fields.toxicity = toxicity_two fields.toxicity read.toxicity read.is_toxicity ∙ sym read.is_toxicity in
-    ap (λ (toxicity : Option ℕ). ok_or (toxic_named fields.type_name) UnknownType >>= (λ k. ok_or toxicity ToxicityNotThousandths >>= (λ t. toxic_with k fields.attributes >>= (λ x. Ok (named_with fields t x))))) same
+    let same : toxicity_in Two fields.toxicity ≡ toxicity_in One fields.toxicity = toxicity_two fields.toxicity read.toxicity read.is_toxicity
+    ∙ sym read.is_toxicity in
+    ap (λ (toxicity : Option ℕ). ok_or (toxic_named fields.type_name) UnknownType >>=
+    (λ k. ok_or toxicity ToxicityNotThousandths >>= (λ t. toxic_with k fields.attributes >>= (λ x. Ok (named_with fields t x))))) same
     ∙ is
 
 toxic_two : (at : Location) (d : Data) (toxic : NamedToxic) → toxic_at One at d ≡ Ok toxic → toxic_at Two at d ≡ Ok toxic
@@ -51,7 +53,8 @@ module _ (lanes : Lanes) where
   abbrev pub in_version : Version → Settings
   in_version version = record { version = version; lanes = lanes }
 
-  toxics_two : (rule : ℕ) (earlier : List NamedToxic) (ds : Items) (toxics : List NamedToxic) → toxics_from (in_version One) rule earlier ds ≡ Ok toxics → toxics_from (in_version Two) rule earlier ds ≡ Ok toxics
+  toxics_two : (rule : ℕ) (earlier : List NamedToxic) (ds : Items) (toxics : List NamedToxic) → toxics_from (in_version One) rule earlier ds ≡ Ok toxics
+      → toxics_from (in_version Two) rule earlier ds ≡ Ok toxics
   toxics_two rule earlier no_items toxics is = is
   toxics_two rule earlier (item d ds) toxics is =
       let at : Location = record { rule = rule; toxic = length earlier + 1 } in
@@ -68,20 +71,34 @@ module _ (lanes : Lanes) where
 
   -- the rule of some fields with these toxics
   abbrev rule_with : RuleFields → RuleToxics → Rule
-  rule_with fields toxics = record { proxy = fields.proxy; first = fields.first; last = fields.last; chains = toxics.chains; order = toxics.order; decimals = toxics.decimals }
+  rule_with fields toxics = record {
+    proxy = fields.proxy;
+    first = fields.first;
+    last = fields.last;
+    chains = toxics.chains;
+    order = toxics.order;
+    decimals =
+        toxics.decimals;
+  }
 
   rule_two : (number : ℕ) (d : Data) (rule : Rule) → rule_of (in_version One) number d ≡ Ok rule → rule_of (in_version Two) number d ≡ Ok rule
   rule_two number d rule is =
       let at : Location = record { rule = number; toxic = 0 } in
-      let (fields, read, was) = bind_ok (map_err (fault.Field at) (rule_fields d)) (λ (fields : RuleFields). read_toxics (in_version One) number fields.toxics >>= (λ made. Ok (rule_with fields made))) rule is in
+      let (fields, read, was) = bind_ok (map_err (fault.Field at) (rule_fields d))
+      (λ (fields : RuleFields). read_toxics (in_version One) number fields.toxics >>= (λ made. Ok (rule_with fields made))) rule is in
       let (toxics, was_toxics, made) = bind_ok (read_toxics (in_version One) number fields.toxics) (λ made. Ok (rule_with fields made)) rule was in
-      bind_from (map_err (fault.Field at) (rule_fields d)) (λ (fields : RuleFields). read_toxics (in_version Two) number fields.toxics >>= (λ made. Ok (rule_with fields made))) fields rule read
-      (bind_from (read_toxics (in_version Two) number fields.toxics) (λ made. Ok (rule_with fields made)) toxics rule (read_two number fields.toxics toxics was_toxics) made)
+      bind_from (map_err (fault.Field at) (rule_fields d)) (λ (fields : RuleFields).
+      read_toxics (in_version Two) number fields.toxics >>= (λ made. Ok (rule_with fields made))) fields rule read
+      (bind_from (read_toxics (in_version Two) number fields.toxics) (λ made. Ok (rule_with fields made)) toxics rule
+      (read_two number fields.toxics toxics was_toxics) made)
 
   -- tables that are accepted in version 1 are the same rules in version 2
-  pub rules_two : (earlier : List Rule) (ds : Items) (rules : List Rule) → rules_from (in_version One) earlier ds ≡ Ok rules → rules_from (in_version Two) earlier ds ≡ Ok rules
+  pub rules_two : (earlier : List Rule) (ds : Items) (rules : List Rule) → rules_from (in_version One) earlier ds ≡ Ok rules
+      → rules_from (in_version Two) earlier ds ≡ Ok rules
   rules_two earlier no_items rules is = is
   rules_two earlier (item d ds) rules is =
-      let (rule, was, rest) = bind_ok (rule_of (in_version One) (length earlier + 1) d) (λ rule. rules_from (in_version One) (earlier ++ rule ∷ []) ds) rules is in
-      bind_from (rule_of (in_version Two) (length earlier + 1) d) (λ rule. rules_from (in_version Two) (earlier ++ rule ∷ []) ds) rule rules (rule_two (length earlier + 1) d rule was)
+      let (rule, was, rest) = bind_ok (rule_of (in_version One) (length earlier + 1) d) (λ rule. rules_from (in_version One) (earlier ++ rule ∷ []) ds) rules is
+      in
+      bind_from (rule_of (in_version Two) (length earlier + 1) d) (λ rule. rules_from (in_version Two) (earlier ++ rule ∷ []) ds) rule rules
+      (rule_two (length earlier + 1) d rule was)
       (rules_two (earlier ++ rule ∷ []) ds rules rest)

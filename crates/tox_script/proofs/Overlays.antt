@@ -1,5 +1,6 @@
 -- Steps laid over others, one step at a time.
-use Rattle.std.proofs.Common.{◌≡◌, ℕ, ◌+◌, ◌^◌, ◌<◌, ◌≤◌, ◌⊎◌, inl, inr, max, true, false, cond, List, [], ◌∷◌, ◌++◌, length, Option, Some, None, leb, arith, refl, sym, ap, ◌∙◌}
+use Rattle.std.proofs.Common.{◌≡◌, ℕ, ◌+◌, ◌^◌, ◌<◌, ◌≤◌, ◌⊎◌, inl, inr, max, true, false, cond, List, [], ◌∷◌, ◌++◌, length, Option, Some, None, leb, arith}
+use Rattle.std.proofs.Common.{refl, sym, ap, ◌∙◌}
 use Rattle.std.proofs.lemmas.Bool.{le-leb, lt-leb, eq-eqb}
 use Rattle.std.proofs.lemmas.Bool.Decides.{eqb_tells, leb_tells}
 use Rattle.std.specs.Option.{option_or}
@@ -31,7 +32,8 @@ IsBy first (step ∷ steps) = step.first ≤ first
 -- a connection from the latest step on has its rule
 rule_at-from : (conn first : ℕ) (steps : List Step) → IsBy first steps → first ≤ conn → rule_at conn steps ≡ rule_in steps
 rule_at-from conn first [] by from = refl
-rule_at-from conn first (step ∷ steps) by from = let here : leb step.first conn ≡ true = le-leb step.first conn (omega arith) in ap (λ b. cond b step.rule (rule_at conn steps)) here
+rule_at-from conn first (step ∷ steps) by from = let here : leb step.first conn ≡ true = le-leb step.first conn (omega arith) in
+    ap (λ b. cond b step.rule (rule_at conn steps)) here
 
 -- a connection before a latest step has its rule in the other steps
 rule_at-before : (conn first : ℕ) (steps : List Step) → conn < first → rule_at conn steps ≡ rule_at conn (without_latest first steps)
@@ -86,7 +88,8 @@ one_fewer upper lower above below first either = elim either [
   | inr here ↦ omega (arith, length-behind_here lower below first here, length-behind_most first (upper ∷ above))
 ]
 
-joined_step : (above below : List Step) (first : ℕ) (rule : Option ℕ) → latest_step above below ≡ Some (record { first = first; rule = rule }) → IsJoined above below (record { first = first; rule = rule })
+joined_step : (above below : List Step) (first : ℕ) (rule : Option ℕ) → latest_step above below ≡ Some (record { first = first; rule = rule })
+    → IsJoined above below (record { first = first; rule = rule })
 joined_step [] [] first rule some = absurd (cc)
 joined_step [] (lower ∷ below) first rule some =
     let same : lower ≡ record { first = first; rule = rule } = cc in
@@ -124,7 +127,8 @@ joined_some above below step some = joined_step above below step.first step.rule
 
 -- a connection has its rule in the latest step, or else in what is left
 pub rule_at-latest_step : (conn : ℕ) (above below : List Step) (step : Step) → IsJoined above below step
-    → cond (leb step.first conn) step.rule (option_or (rule_at conn (without_latest step.first above)) (rule_at conn (without_latest step.first below))) ≡ option_or (rule_at conn above) (rule_at conn below)
+    → cond (leb step.first conn) step.rule (option_or (rule_at conn (without_latest step.first above)) (rule_at conn (without_latest step.first below)))
+    ≡ option_or (rule_at conn above) (rule_at conn below)
 rule_at-latest_step conn above below step is = elim (leb_tells step.first conn) [
   | inl from ↦
       let up = rule_at-from conn step.first above is.above_by from.1 in
@@ -143,7 +147,8 @@ abbrev pub DescendsTo : ℕ → ℕ → List Step → Type 0
 DescendsTo most floor [] = floor ≤ most
 DescendsTo most floor (step ∷ steps) = (step.first ≤ most) × DescendsTo step.first floor steps
 
-pub DescendsTo-push : (most floor : ℕ) (steps : List Step) (step : Step) → DescendsTo most floor steps → step.first ≤ floor → DescendsTo most step.first (steps ++ step ∷ [])
+pub DescendsTo-push : (most floor : ℕ) (steps : List Step) (step : Step) → DescendsTo most floor steps → step.first ≤ floor
+    → DescendsTo most step.first (steps ++ step ∷ [])
 DescendsTo-push most floor [] step down by = (omega arith, omega arith)
 DescendsTo-push most floor (s ∷ steps) step down by = (down.0, DescendsTo-push s.first floor steps step down.1 by)
 
@@ -180,5 +185,6 @@ pub IsLaid-last : (upper lower steps above below : List Step) → IsLaid upper l
 IsLaid-last upper lower steps above below laid none conn =
     let ends = joined_none above below none in
     sym (rule_or-none conn steps)
-    ∙ ap (λ rule. rule_or conn rule steps) (sym (ap (λ xs. option_or (rule_at conn xs) (rule_at conn below)) ends.0 ∙ ap (λ xs. option_or None (rule_at conn xs)) ends.1))
+    ∙ ap (λ rule. rule_or conn rule steps) (sym (ap (λ xs. option_or (rule_at conn xs) (rule_at conn below)) ends.0
+    ∙ ap (λ xs. option_or None (rule_at conn xs)) ends.1))
     ∙ laid.found conn

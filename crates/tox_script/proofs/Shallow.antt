@@ -1,5 +1,6 @@
 -- How deep tables nest, and that each date in them can be printed.
-use Rattle.std.proofs.Common.{◌≡◌, ℕ, ◌≤◌, ℤ, Bool, true, false, ◌&&◌, List, Option, Some, None, Ordering, Less, Equal, Greater, nat_cmp, is_eq, refl, sym, ap, ◌∙◌, arith}
+use Rattle.std.proofs.Common.{◌≡◌, ℕ, ◌≤◌, ℤ, Bool, true, false, ◌&&◌, List, Option, Some, None, Ordering, Less, Equal, Greater, nat_cmp, is_eq, refl, sym, ap}
+use Rattle.std.proofs.Common.{◌∙◌, arith}
 use Rattle.std.proofs.lemmas.Bool.{and_parts}
 use Rattle.std.proofs.lemmas.Cmp.{nat_list_cmp_total}
 use Rattle.std.proofs.lemmas.Map.Text.{is_eq-slice_cmp}
@@ -8,7 +9,9 @@ use Rattle.std.specs.Cmp.{tied_itself}
 use Rattle.std.specs.Cmp.Lexicographic.{slice_cmp}
 use Rattle.std.specs.List.{list_all}
 use Rattle.toml.proofs.Blanks.{below, below_from}
-use Rattle.toml.specs.Data.{Data, string, integer, float, boolean, datetime, array, table, Items, Members, no_members, member, as_integer, as_str, depth, items_depth, members_depth, get_member, has_valid_dates, items_have_valid_dates, members_have_valid_dates, is_before, is_sorted, members_are_sorted}
+use Rattle.toml.specs.Data.{Data, string, integer, float, boolean, datetime, array, table, Items, Members, no_members, member, as_integer, as_str, depth}
+use Rattle.toml.specs.Data.{items_depth, members_depth, get_member, has_valid_dates, items_have_valid_dates, members_have_valid_dates, is_before, is_sorted}
+use Rattle.toml.specs.Data.{members_are_sorted}
 use Rattle.tox_script.specs.fields.Fields.{is_among, member_keys}
 
 -- a value nests no deeper than so many levels

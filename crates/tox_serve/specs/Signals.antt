@@ -1,5 +1,6 @@
 -- The signals that tell a process to stop, as the text of `/proc/self/status` shows them.
-use Rattle.std.specs.Prelude.{ℕ, ◌-◌, ◌/◌, ◌%◌, ◌^◌, ◌==◌, nat_eq, ◌&&◌, ◌||◌, not, Bool, false, List, [], ◌∷◌, length, drop, codes, Option, Some, None, slice_get, if◌then◌else◌}
+use Rattle.std.specs.Prelude.{ℕ, ◌-◌, ◌/◌, ◌%◌, ◌^◌, ◌==◌, nat_eq, ◌&&◌, ◌||◌, not, Bool, false, List, [], ◌∷◌, length, drop, codes, Option, Some, None}
+use Rattle.std.specs.Prelude.{slice_get, if◌then◌else◌}
 use Rattle.std.specs.List.{starts_with}
 use Rattle.std.specs.Char.{digit_value, is_digit}
 

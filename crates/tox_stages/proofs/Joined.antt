@@ -16,7 +16,8 @@ received_all below known sent ring link whole =
     sym (append-nil below) ∙ ap (λ rest. below ++ rest) (sym none) ∙ ring
 
 -- at a ring into which a whole stream was sent
-pub from_ring : (reactions : List Reaction) (sent below known delivered : List Item) → IsLinkStream sent → below ++ known ≡ sent → Delivers reactions below delivered → PassesOn reactions sent delivered
+pub from_ring : (reactions : List Reaction) (sent below known delivered : List Item) → IsLinkStream sent → below ++ known ≡ sent
+    → Delivers reactions below delivered → PassesOn reactions sent delivered
 from_ring reactions sent below known delivered link ring delivers =
     let passes : PassesOn reactions below delivered = delivers (known, subst IsLinkStream (sym ring) link) in
     let same : below ≡ sent = received_all below known sent ring link (λ both. passes.whole) in
@@ -39,7 +40,8 @@ level_up reaction reactions above sent below known delivered keeps sends ring de
     let whole : IsLinkStream above = sends.whole begins in
     let kept : IsKeptBy above (flow reaction above) = keeps above whole.stream in
     let given : IsLinkStream (flow reaction above) = record { stream = kept.stream; few = (let few = whole.few in let fewer = kept.bytes in omega arith) } in
-    let passes : PassesOn reactions (flow reaction above) delivered = from_ring reactions (flow reaction above) below known delivered given (ring ∙ sends.flowed begins) delivers in
+    let passes : PassesOn reactions (flow reaction above) delivered = from_ring reactions (flow reaction above) below known delivered given
+    (ring ∙ sends.flowed begins) delivers in
     record {
       whole = whole;
       rings = record { sent = above; given = above } ∷ passes.rings;

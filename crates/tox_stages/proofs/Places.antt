@@ -17,12 +17,14 @@ abbrev pub place_behind : StreamPosition → List Item → StreamPosition
 place_behind place [] = place
 place_behind place (item ∷ items) = place_behind (position_after place item) items
 
-pub place_behind-last : (place : StreamPosition) (items : List Item) (item : Item) → place_behind place (items ++ item ∷ []) ≡ position_after (place_behind place items) item
+pub place_behind-last : (place : StreamPosition) (items : List Item) (item : Item)
+    → place_behind place (items ++ item ∷ []) ≡ position_after (place_behind place items) item
 place_behind-last place [] item = refl
 place_behind-last place (first ∷ items) item = place_behind-last (position_after place first) items item
 
 -- the next item goes on with those before it
-AllFit-next : (place : StreamPosition) (items : List Item) (item : Item) (rest : List Item) → AllFit place (items ++ item ∷ rest) → fits (place_behind place items) item ≡ true
+AllFit-next : (place : StreamPosition) (items : List Item) (item : Item) (rest : List Item) → AllFit place (items ++ item ∷ rest)
+    → fits (place_behind place items) item ≡ true
 AllFit-next place [] item rest fit = fit.0
 AllFit-next place (first ∷ items) item rest fit = AllFit-next (position_after place first) items item rest fit.1
 
@@ -75,7 +77,8 @@ misfit items item wrong (rest, link) =
     cc
 
 -- a chunk takes the place on, and not past the limit
-pub grows : (place : StreamPosition) (item : Item) → fits place item ≡ true → is_final item ≡ false → (place.position < (position_after place item).position) × ((position_after place item).position ≤ 2 ^ 40)
+pub grows : (place : StreamPosition) (item : Item) → fits place item ≡ true → is_final item ≡ false
+    → (place.position < (position_after place item).position) × ((position_after place item).position ≤ 2 ^ 40)
 grows place (Chunk span t) fit chunk = grind (arith, nat_tests)
 grows place (Closed t) fit chunk = cc
 grows place (Reset t) fit chunk = cc

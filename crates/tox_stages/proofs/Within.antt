@@ -42,7 +42,10 @@ both_within items (Quiet ∷ given) others within rest = both_within items given
 
 themselves_within : (items : List Item) → LieWithin items items
 themselves_within [] = tt
-themselves_within (Chunk span t ∷ items) = (in_first span span t items (omega arith) (omega arith), later_within (Chunk span t) items items (themselves_within items))
+themselves_within (Chunk span t ∷ items) = (
+  in_first span span t items (omega arith) (omega arith),
+  later_within (Chunk span t) items items (themselves_within items),
+)
 themselves_within (Closed t ∷ items) = later_within (Closed t) items items (themselves_within items)
 themselves_within (Reset t ∷ items) = later_within (Reset t) items items (themselves_within items)
 themselves_within (Quiet ∷ items) = later_within Quiet items items (themselves_within items)
@@ -54,7 +57,8 @@ wider span whole (Closed t) from to lies = lies
 wider span whole (Reset t) from to lies = lies
 wider span whole Quiet from to lies = lies
 
-in_what_lies : (span : Span) (items given : List Item) (k : ℕ) (item : Item) → LieWithin items given → k < length given → slice_index_or given k item ≡ item → LiesInChunk span item → Any (LiesInChunk span) items
+in_what_lies : (span : Span) (items given : List Item) (k : ℕ) (item : Item) → LieWithin items given → k < length given → slice_index_or given k item ≡ item
+    → LiesInChunk span item → Any (LiesInChunk span) items
 in_what_lies span items [] k item within below is lies = absurd (omega arith)
 in_what_lies span items (Chunk whole t ∷ given) zero item within below is lies =
     let bounds : LiesInChunk span (Chunk whole t) = subst (LiesInChunk span) (sym is) lies in
@@ -95,7 +99,8 @@ react_within : (done : Bool) (from until : ℕ) (giving : Giving) (state : State
 react_within true from until giving state item items gives = tt
 react_within false from until giving state item items gives = either_within (is_outside from until item) giving state item items gives
 
-flow_within : (from until : ℕ) (giving : Giving) → GivesWithin giving → (state : State) (items : List Item) → LieWithin items (flow_from (during from until (counted giving)) state items)
+flow_within : (from until : ℕ) (giving : Giving) → GivesWithin giving → (state : State) (items : List Item)
+    → LieWithin items (flow_from (during from until (counted giving)) state items)
 flow_within from until giving gives state [] = tt
 flow_within from until giving gives state (item ∷ items) =
     let answer : Answer = react (during from until (counted giving)) state item in
@@ -103,19 +108,22 @@ flow_within from until giving gives state (item ∷ items) =
     (react_within state.done from until giving state item items gives)
     (later_within item items (flow_from (during from until (counted giving)) answer.state items) (flow_within from until giving gives answer.state items))
 
-toxics_within : (toxics : List Placed) (draws : Draws) (items : List Item) → LieWithin items (flow_through (map (λ placed. toxic_reaction placed.toxic (draws placed.place)) toxics) items)
+toxics_within : (toxics : List Placed) (draws : Draws) (items : List Item)
+    → LieWithin items (flow_through (map (λ placed. toxic_reaction placed.toxic (draws placed.place)) toxics) items)
 toxics_within [] draws items = themselves_within items
 toxics_within (placed ∷ toxics) draws items =
     let given = toxic_flow placed.toxic (draws placed.place) items in
     through_within items given (flow_through (map (λ placed. toxic_reaction placed.toxic (draws placed.place)) toxics) given)
-    (flow_within (toxic_from placed.toxic) (toxic_until placed.toxic) (toxic_giving placed.toxic (draws placed.place)) ((toxic_facts placed.toxic).within (draws placed.place)) first_state items)
+    (flow_within (toxic_from placed.toxic) (toxic_until placed.toxic) (toxic_giving placed.toxic (draws placed.place))
+    ((toxic_facts placed.toxic).within (draws placed.place)) first_state items)
     (toxics_within toxics draws given)
 
 pub chain_within : (chain : Toxics) (words : List ℕ) (items : List Item) → LieWithin items (chain_flow chain words items)
 chain_within chain words items = toxics_within (applied chain words) (chain_draws chain words) items
 
 -- slices that show a stream of such chunks are neighbours
-pub neighbours_shown : (items : List Item) (position since : ℕ) (slices : List Slice) (ending : Ending) → IsStreamFrom position since (shown slices (Some ending))
+pub neighbours_shown : (items : List Item) (position since : ℕ) (slices : List Slice) (ending : Ending)
+    → IsStreamFrom position since (shown slices (Some ending))
     → LieWithin items (shown slices (Some ending)) → AreNeighbours items position slices
 neighbours_shown items position since [] ending stream within = tt
 neighbours_shown items position since (slice ∷ slices) ending stream within =

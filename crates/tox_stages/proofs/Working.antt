@@ -45,7 +45,8 @@ reacts stage items given s item h =
     ∙ ap (λ (drawing : DrawingView). react (op_reaction stage.op (draws_of drawing)) s.state item) h.same_drawing
     ∙ ap (λ state. react (reaction_of stage) state item) h.state
 
-pub flowed_more : (stage : Staged) (items given : List Item) (s : Staged) (item : Item) (more : List Item) → HasWorked stage items given s → more ≡ given ++ (taken s item).pending
+pub flowed_more : (stage : Staged) (items given : List Item) (s : Staged) (item : Item) (more : List Item) → HasWorked stage items given s
+    → more ≡ given ++ (taken s item).pending
     → more ≡ flow_from (reaction_of stage) first_state (items ++ item ∷ [])
 flowed_more stage items given s item more h is =
     is
@@ -58,16 +59,19 @@ unended_items : (stage : Staged) (items given : List Item) (s : Staged) → HasW
 unended_items stage items given s h = sym (ended_behind first_position items refl) ∙ ap (λ (place : StreamPosition). place.ended) (sym h.place) ∙ h.unended
 
 -- a chunk more
-pub worked_on : (stage : Staged) (items given : List Item) (s : Staged) (item : Item) (t : Staged) (all more : List Item) → HasWorked stage items given s → is_final item ≡ false
+pub worked_on : (stage : Staged) (items given : List Item) (s : Staged) (item : Item) (t : Staged) (all more : List Item) → HasWorked stage items given s
+    → is_final item ≡ false
     → t ≡ record (taken s item) { pending = [] } → all ≡ items ++ item ∷ [] → more ≡ given ++ (taken s item).pending → HasWorked stage all more t
 worked_on stage items given s item t all more h chunk is received is_sent =
     let place : t.place ≡ place_behind first_position all =
-    ap (λ (s : Staged). s.place) is ∙ ap (λ place. position_after place item) h.place ∙ sym (place_behind-last first_position items item) ∙ ap (place_behind first_position) (sym received) in
+    ap (λ (s : Staged). s.place) is ∙ ap (λ place. position_after place item) h.place ∙ sym (place_behind-last first_position items item)
+    ∙ ap (place_behind first_position) (sym received) in
     record {
       same_op = ap (λ (s : Staged). s.op) is ∙ h.same_op;
       same_drawing = ap (λ (s : Staged). s.drawing) is ∙ h.same_drawing;
       idle = ap (λ (s : Staged). s.pending) is;
-      unended = ap (λ (place : StreamPosition). place.ended) place ∙ ended_behind first_position all refl ∙ ap has_final received ∙ has_final-last items item (unended_items stage items given s h) ∙ chunk;
+      unended = ap (λ (place : StreamPosition). place.ended) place ∙ ended_behind first_position all refl ∙ ap has_final received
+          ∙ has_final-last items item (unended_items stage items given s h) ∙ chunk;
       place = place;
       state = ap (λ (s : Staged). s.state) is ∙ ap (λ (answer : Answer). answer.state) (reacts stage items given s item h)
           ∙ sym (state_from-last (reaction_of stage) first_state items item)
@@ -76,7 +80,8 @@ worked_on stage items given s item t all more h chunk is received is_sent =
     }
 
 -- a final: where the items begin a stream, they are all of it
-pub worked_all : (stage : Staged) (items given : List Item) (s : Staged) (item : Item) (reaction : Reaction) (all more : List Item) → HasWorked stage items given s → is_final item ≡ true
+pub worked_all : (stage : Staged) (items given : List Item) (s : Staged) (item : Item) (reaction : Reaction) (all more : List Item)
+    → HasWorked stage items given s → is_final item ≡ true
     → reaction_of stage ≡ reaction → all ≡ items ++ item ∷ [] → more ≡ given ++ (taken s item).pending → SendsFlow reaction all more
 worked_all stage items given s item reaction all more h final is received is_sent =
     let ended : has_final all ≡ true = ap has_final received ∙ has_final-last items item (unended_items stage items given s h) ∙ final in
@@ -89,7 +94,8 @@ worked_all stage items given s item reaction all more h final is received is_sen
     }
 
 -- an item that doesn't go on: the items begin no stream
-pub misfits : (stage : Staged) (items given : List Item) (s : Staged) (item : Item) (reaction : Reaction) (all more : List Item) → HasWorked stage items given s → fits s.place item ≡ false
+pub misfits : (stage : Staged) (items given : List Item) (s : Staged) (item : Item) (reaction : Reaction) (all more : List Item) → HasWorked stage items given s
+    → fits s.place item ≡ false
     → all ≡ items ++ item ∷ [] → SendsFlow reaction all more
 misfits stage items given s item reaction all more h wrong received =
     let none : BeginsStream all → ⊥ = λ begins. misfit items item (ap (λ place. fits place item) (sym h.place) ∙ wrong) (subst BeginsStream received begins) in
@@ -97,7 +103,8 @@ misfits stage items given s item reaction all more h wrong received =
 
 module _ {A P : Type 0} where
   -- all that was received was taken, in so many turns, and its flow was sent
-  pub record IsWorking (consumer : Consumer Item A P) (producer : Producer Item A P) (stage : Staged) (c : Consumer Item A P) (p : Producer Item A P) (s : Staged) (nth : ℕ) : Type 0 where
+  pub record IsWorking (consumer : Consumer Item A P) (producer : Producer Item A P) (stage : Staged) (c : Consumer Item A P) (p : Producer Item A P)
+      (s : Staged) (nth : ℕ) : Type 0 where
     pub same_consumer : SameConsumer consumer c
     pub same_producer : SameProducer producer p
     pub worked : HasWorked stage (received c) (sent p) s

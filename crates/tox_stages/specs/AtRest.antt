@@ -7,7 +7,8 @@ use Rattle.tox_defs.specs.Flow.{reactions_of}
 use Rattle.tox_network.specs.Rings.{Ring, PassOn, IsRunOf}
 use Rattle.tox_network.specs.Shown.{shown}
 
--- rings over which the stages of a chain passed these items on; a run at rest whose queues were sent and gave what the rings were and did; and it delivered, item by item, what the outcome shows
+-- rings over which the stages of a chain passed these items on; a run at rest whose queues were sent and gave what the rings were and did; and it delivered,
+-- item by item, what the outcome shows
 pub record IsNetworkAtRest (cap : ℕ) (chain : Toxics) (words : List ℕ) (items : List Item)
     (outcome : Outcome) : Type 0 where
   pub rings : List Ring

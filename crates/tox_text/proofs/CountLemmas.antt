@@ -1,5 +1,6 @@
 -- What a line adds to what is counted of the lines before it.
-use Rattle.std.proofs.Common.{◌≡◌, ℕ, ◌+◌, ◌<◌, ◌≤◌, ◌^◌, ◌==◌, Bool, true, false, List, [], ◌∷◌, length, nat_lt, Option, Some, None, Result, Ok, Err, ◌/◌, if◌then◌else◌, refl, ap, sym, ◌∙◌, arith, rules, tests}
+use Rattle.std.proofs.Common.{◌≡◌, ℕ, ◌+◌, ◌<◌, ◌≤◌, ◌^◌, ◌==◌, Bool, true, false, List, [], ◌∷◌, length, nat_lt, Option, Some, None, Result, Ok, Err, ◌/◌}
+use Rattle.std.proofs.Common.{if◌then◌else◌, refl, ap, sym, ◌∙◌, arith, rules, tests}
 use Rattle.std.specs.Prelude.{is_ok, option_map}
 use Rattle.std.specs.Result.{result_ok}
 use Rattle.hex.specs.Hex.{decode_of}
@@ -22,11 +23,13 @@ use Rattle.tox_text.specs.arrivals.Line.{Line, arrival, end, line_of}
 use Rattle.tox_time.specs.declared.streams.position.StreamPosition.{StreamPosition}
 
 -- a line that isn't empty says what is read of it
-pub after_line-read : (n : ℕ) (before : Arrived) (line : List ℕ) (read : Option Line) → (length line == 0) ≡ false → line_of line ≡ read → after_line n before line ≡ after_read n before read
+pub after_line-read : (n : ℕ) (before : Arrived) (line : List ℕ) (read : Option Line) → (length line == 0) ≡ false → line_of line ≡ read
+    → after_line n before line ≡ after_read n before read
 after_line-read n before line read filled is =
     ap (λ empty. if empty then Ok before else after_read n before (line_of line)) filled ∙ ap (after_read n before) is
 
-unrefused : (a b c d : Bool) → (if a then Some TimeBack else (if b then Some EmptyPiece else (if c then Some TooManyBytes else (if d then Some AfterEnd else None)))) ≡ None
+unrefused : (a b c d : Bool) → (if a then Some TimeBack else (if b then Some EmptyPiece else
+    (if c then Some TooManyBytes else (if d then Some AfterEnd else None)))) ≡ None
     → (a ≡ false) × (b ≡ false) × (c ≡ false) × (d ≡ false)
 unrefused true b c d none = absurd (cc)
 unrefused false true c d none = absurd (cc)
@@ -35,7 +38,8 @@ unrefused false false false true none = absurd (cc)
 unrefused false false false false none = (refl, refl, refl, refl)
 
 -- what an accepted piece is
-pub accepted_piece : (bytes since len t : ℕ) (ended : Bool) → piece_fault bytes since ended len t ≡ None → (since ≤ t) × (0 < len) × (bytes + len ≤ 2 ^ 40) × (ended ≡ false)
+pub accepted_piece : (bytes since len t : ℕ) (ended : Bool) → piece_fault bytes since ended len t ≡ None
+    → (since ≤ t) × (0 < len) × (bytes + len ≤ 2 ^ 40) × (ended ≡ false)
 accepted_piece bytes since len t ended none =
     let tests_are = unrefused (nat_lt t since) (len == 0) (nat_lt (2 ^ 40) (bytes + len)) ended none in
     let ordered : nat_lt t since ≡ false = tests_are.0 in
@@ -55,7 +59,8 @@ accepted_end since t ended none =
     (search (rules, tests), tests_are.1)
 
 -- a piece more
-pub AreArrivals-piece : (before : Arrived) (t : ℕ) (bytes : List ℕ) → AreArrivals before → IsInstant t → push_fault before.items (length bytes) t ≡ None → AreArrivals (with_data before t bytes)
+pub AreArrivals-piece : (before : Arrived) (t : ℕ) (bytes : List ℕ) → AreArrivals before → IsInstant t → push_fault before.items (length bytes) t ≡ None
+    → AreArrivals (with_data before t bytes)
 AreArrivals-piece before t bytes arrivals instant none =
     let fits = accepted_piece (arrived before.items) (latest before.items) (length bytes) t (has_final before.items) none in
     let chunk : Item = next_chunk before.items (length bytes) t in
@@ -73,7 +78,8 @@ AreArrivals-end before t arrivals instant none =
       few = omega (arith, arrived-append before.items (Closed t ∷ []), arrivals.few);
     }
 
-counted_fault : (count : StreamPosition) (before : Arrived) (len t : ℕ) → Counts count before → piece_fault count.position count.latest count.ended len t ≡ push_fault before.items len t
+counted_fault : (count : StreamPosition) (before : Arrived) (len t : ℕ) → Counts count before
+    → piece_fault count.position count.latest count.ended len t ≡ push_fault before.items len t
 counted_fault count before len t counts =
     ap (λ n. piece_fault n count.latest count.ended len t) counts.bytes
     ∙ ap (λ n. piece_fault (arrived before.items) n count.ended len t) counts.latest
@@ -84,8 +90,10 @@ counted_end count before t counts =
     ap (λ n. end_fault n count.ended t) counts.latest ∙ ap (λ b. end_fault (latest before.items) b t) counts.ended
 
 -- a data line is counted
-pub data_counted : (n : ℕ) (old new : StreamPosition) (before : Arrived) (t : ℕ) (bytes line : List ℕ) → (length line == 0) ≡ false → line_of line ≡ Some (arrival t bytes) → IsInstant t
-    → piece_fault old.position old.latest old.ended (length bytes) t ≡ None → (new.position ≡ old.position + length bytes) × (new.latest ≡ t) × (new.ended ≡ false) → Counts old before
+pub data_counted : (n : ℕ) (old new : StreamPosition) (before : Arrived) (t : ℕ) (bytes line : List ℕ) → (length line == 0) ≡ false
+    → line_of line ≡ Some (arrival t bytes) → IsInstant t
+    → piece_fault old.position old.latest old.ended (length bytes) t ≡ None
+    → (new.position ≡ old.position + length bytes) × (new.latest ≡ t) × (new.ended ≡ false) → Counts old before
     → (after : Arrived) × (after_line n before line ≡ Ok after) × Counts new after
 data_counted n old new before t bytes line filled is instant none grown counts =
     let accepted : push_fault before.items (length bytes) t ≡ None = sym (counted_fault old before (length bytes) t counts) ∙ none in
@@ -102,7 +110,8 @@ data_counted n old new before t bytes line filled is instant none grown counts =
     )
 
 -- a last line is counted
-pub end_counted : (n : ℕ) (old new : StreamPosition) (before : Arrived) (t : ℕ) (line : List ℕ) → (length line == 0) ≡ false → line_of line ≡ Some (end t) → IsInstant t
+pub end_counted : (n : ℕ) (old new : StreamPosition) (before : Arrived) (t : ℕ) (line : List ℕ) → (length line == 0) ≡ false → line_of line ≡ Some (end t)
+    → IsInstant t
     → end_fault old.latest old.ended t ≡ None → (new.position ≡ old.position) × (new.latest ≡ t) × (new.ended ≡ true) → Counts old before
     → (after : Arrived) × (after_line n before line ≡ Ok after) × Counts new after
 end_counted n old new before t line filled is instant none grown counts =
@@ -119,13 +128,15 @@ end_counted n old new before t line filled is instant none grown counts =
     )
 
 -- and a refused one is reported
-pub data_refused : (n : ℕ) (old : StreamPosition) (before : Arrived) (t : ℕ) (bytes line : List ℕ) (fault : ArrivalFault) → (length line == 0) ≡ false → line_of line ≡ Some (arrival t bytes)
+pub data_refused : (n : ℕ) (old : StreamPosition) (before : Arrived) (t : ℕ) (bytes line : List ℕ) (fault : ArrivalFault) → (length line == 0) ≡ false
+    → line_of line ≡ Some (arrival t bytes)
     → piece_fault old.position old.latest old.ended (length bytes) t ≡ Some fault → Counts old before → after_line n before line ≡ Err (Arrival fault n)
 data_refused n old before t bytes line fault filled is refused counts =
     after_line-read n before line (Some (arrival t bytes)) filled is
     ∙ ap (λ f. arrived_or_fault n f (with_data before t bytes)) (sym (counted_fault old before (length bytes) t counts) ∙ refused)
 
-pub end_refused : (n : ℕ) (old : StreamPosition) (before : Arrived) (t : ℕ) (line : List ℕ) (fault : ArrivalFault) → (length line == 0) ≡ false → line_of line ≡ Some (end t)
+pub end_refused : (n : ℕ) (old : StreamPosition) (before : Arrived) (t : ℕ) (line : List ℕ) (fault : ArrivalFault) → (length line == 0) ≡ false
+    → line_of line ≡ Some (end t)
     → end_fault old.latest old.ended t ≡ Some fault → Counts old before → after_line n before line ≡ Err (Arrival fault n)
 end_refused n old before t line fault filled is refused counts =
     after_line-read n before line (Some (end t)) filled is
@@ -136,7 +147,8 @@ pub pairs_read : (t : ℕ) (digits : List ℕ) → is_ok (decode_of digits) ≡ 
     → (bytes : List ℕ) × (option_map (arrival t) (result_ok (decode_of digits)) ≡ Some (arrival t bytes)) × (length digits / 2 ≡ length bytes)
 pairs_read t digits pairs = by (decode_of digits) refl
   where
-    by : (read : Result (List ℕ) FromHexError) → decode_of digits ≡ read → (bytes : List ℕ) × (option_map (arrival t) (result_ok (decode_of digits)) ≡ Some (arrival t bytes)) × (length digits / 2 ≡ length bytes)
+    by : (read : Result (List ℕ) FromHexError) → decode_of digits ≡ read
+        → (bytes : List ℕ) × (option_map (arrival t) (result_ok (decode_of digits)) ≡ Some (arrival t bytes)) × (length digits / 2 ≡ length bytes)
     by (Ok bytes) is = let ok = decode_of-ok digits bytes is in (bytes, ap (λ r. option_map (arrival t) (result_ok r)) is, omega (arith, ok.2))
     by (Err fault) is = absurd (let wrong : is_ok (decode_of digits) ≡ false = ap is_ok is in let both : true ≡ false = sym pairs ∙ wrong in cc)
 

@@ -1,5 +1,6 @@
 -- The first line of a text.
-use Rattle.std.proofs.Common.{◌≡◌, ℕ, ◌+◌, ◌<◌, ◌==◌, Bool, true, false, List, [], ◌∷◌, ◌++◌, length, take, drop, get_or, refl, ap, sym, ◌∙◌, arith, length-take}
+use Rattle.std.proofs.Common.{◌≡◌, ℕ, ◌+◌, ◌<◌, ◌==◌, Bool, true, false, List, [], ◌∷◌, ◌++◌, length, take, drop, get_or, refl, ap, sym, ◌∙◌, arith}
+use Rattle.std.proofs.Common.{length-take}
 use Rattle.std.specs.Prelude.{All}
 use Rattle.std.proofs.lemmas.List.{drop_more, get_or_default, get_or-take, take-append-drop}
 use Rattle.std.proofs.lemmas.List.Splits.{slice_split_at, slice_split_none}
@@ -16,7 +17,8 @@ unless_true false never = refl
 -- no line feed is there
 pub lines_of-one : (text : List ℕ) → Nowhere (Passes (is_byte 10) text) 0 (length text) → lines_of text ≡ text ∷ []
 lines_of-one text nowhere =
-    slice_split_none is_feed text (λ k d below. ap is_feed (get_or_default text k d 0 below) ∙ unless_true (is_feed (get_or text k 0)) (nowhere k (omega arith) below))
+    slice_split_none is_feed text (λ k d below. ap is_feed (get_or_default text k d 0 below)
+    ∙ unless_true (is_feed (get_or text k 0)) (nowhere k (omega arith) below))
 
 -- the first line feed is there
 pub lines_of-first : (text : List ℕ) (k : ℕ) → NoneBefore (Passes (is_byte 10) text) 0 (length text) k → Passes (is_byte 10) text k
@@ -26,5 +28,6 @@ lines_of-first text k before passes =
     let short : n < k = omega (arith, length-take k text, below) in
     let same : get_or (take k text) n d ≡ get_or text n 0 = get_or-take k text n d short ∙ get_or_default text n d 0 (omega (arith, before.high)) in
     ap is_feed same ∙ unless_true (is_feed (get_or text n 0)) (before.before n (omega arith) short) in
-    let whole : text ≡ take k text ++ get_or text k 0 ∷ drop (k + 1) text = sym (take-append-drop k text) ∙ ap (λ rest. take k text ++ rest) (drop_more text k 0 before.high) in
+    let whole : text ≡ take k text ++ get_or text k 0 ∷ drop (k + 1) text = sym (take-append-drop k text)
+    ∙ ap (λ rest. take k text ++ rest) (drop_more text k 0 before.high) in
     ap lines_of whole ∙ slice_split_at is_feed (take k text) (get_or text k 0) (drop (k + 1) text) first passes

@@ -11,7 +11,8 @@ use Rattle.hex.proofs.HexLemmas.{decode_of-digits, decode_of-ok}
 pub pairs-even : (digits : List ℕ) → length digits % 2 ≡ 0 → list_all is_hex_digit digits ≡ is_ok (decode_of digits)
 pairs-even digits even = by (list_all is_hex_digit digits) refl (decode_of digits) refl
   where
-    by : (all : Bool) → list_all is_hex_digit digits ≡ all → (read : Result (List ℕ) FromHexError) → decode_of digits ≡ read → list_all is_hex_digit digits ≡ is_ok (decode_of digits)
+    by : (all : Bool) → list_all is_hex_digit digits ≡ all → (read : Result (List ℕ) FromHexError) → decode_of digits ≡ read
+        → list_all is_hex_digit digits ≡ is_ok (decode_of digits)
     by true all read is = let found = decode_of-digits digits even (AllPass-from_list_all is_hex_digit digits all) in all ∙ sym (ap is_ok found.1)
     by false all (Ok bytes) is =
         let ok = decode_of-ok digits bytes is in

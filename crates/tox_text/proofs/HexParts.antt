@@ -1,5 +1,6 @@
 -- Hexadecimal digits of bytes, part by part.
-use Rattle.std.proofs.Common.{◌≡◌, ℕ, ◌-◌, ◌+◌, ◌/◌, ◌%◌, ◌≤◌, List, [], ◌∷◌, ◌++◌, length, take, drop, slice_index, refl, arith, ap, sym, ◌∙◌, length-take, length-drop}
+use Rattle.std.proofs.Common.{◌≡◌, ℕ, ◌-◌, ◌+◌, ◌/◌, ◌%◌, ◌≤◌, List, [], ◌∷◌, ◌++◌, length, take, drop, slice_index, refl, arith, ap, sym, ◌∙◌, length-take}
+use Rattle.std.proofs.Common.{length-drop}
 use Rattle.std.proofs.Math.Seq.{take-add}
 use Rattle.std.proofs.lemmas.List.{take_rest, take_min, take-append-drop}
 use Rattle.hex.specs.Hex.{encode_with, encode_lower, lower_digits}
@@ -33,8 +34,10 @@ pub encode_lower_more : (bytes : List ℕ) (i k : ℕ)
 encode_lower_more bytes i k =
     let n = length (some_of bytes i k) in
     let rest = drop i bytes in
-    let same : some_of bytes i k ≡ take n rest = ap (take k) (take_rest bytes i) ∙ taken k rest ∙ ap (λ xs. take (length xs) rest) (ap (take k) (sym (take_rest bytes i))) in
-    sym (ap encode_lower (take-add i n bytes) ∙ encode_lower-append (take i bytes) (take n rest) ∙ ap (λ xs. encode_lower (take i bytes) ++ encode_lower xs) (sym same))
+    let same : some_of bytes i k ≡ take n rest = ap (take k) (take_rest bytes i) ∙ taken k rest
+    ∙ ap (λ xs. take (length xs) rest) (ap (take k) (sym (take_rest bytes i))) in
+    sym (ap encode_lower (take-add i n bytes) ∙ encode_lower-append (take i bytes) (take n rest)
+    ∙ ap (λ xs. encode_lower (take i bytes) ++ encode_lower xs) (sym same))
 
 -- and those of the others
 pub encode_lower_parts : (bytes : List ℕ) (i k : ℕ)

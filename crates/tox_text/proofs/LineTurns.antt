@@ -1,5 +1,6 @@
 -- A text without faults, line by line: what each line adds to what arrived.
-use Rattle.std.proofs.Common.{◌≡◌, ℕ, ◌/◌, ◌<◌, ◌==◌, Bool, true, false, List, [], ◌∷◌, ◌++◌, length, Option, Some, None, option_map, Result, Ok, Err, if◌then◌else◌, refl, ap, sym, ◌∙◌, arith, rules, tests}
+use Rattle.std.proofs.Common.{◌≡◌, ℕ, ◌/◌, ◌<◌, ◌==◌, Bool, true, false, List, [], ◌∷◌, ◌++◌, length, Option, Some, None, option_map, Result, Ok, Err}
+use Rattle.std.proofs.Common.{if◌then◌else◌, refl, ap, sym, ◌∙◌, arith, rules, tests}
 use Rattle.std.specs.Prelude.{IsOk, is_ok}
 use Rattle.std.specs.Result.{result_ok}
 use Rattle.hex.specs.Hex.{decode_of}
@@ -23,7 +24,8 @@ taken n None a b is = (refl, cc)
 pub data_taken : (n : ℕ) (before next : Arrived) (t : ℕ) (bytes line : List ℕ) → line_of line ≡ Some (arrival t bytes) → after_line n before line ≡ Ok next
     → (push_fault before.items (length bytes) t ≡ None) × (next ≡ with_data before t bytes)
 data_taken n before next t bytes line is took =
-    taken n (push_fault before.items (length bytes) t) (with_data before t bytes) next (sym (after_line-read n before line (Some (arrival t bytes)) (filled line (arrival t bytes) is) is) ∙ took)
+    taken n (push_fault before.items (length bytes) t) (with_data before t bytes) next
+    (sym (after_line-read n before line (Some (arrival t bytes)) (filled line (arrival t bytes) is) is) ∙ took)
 
 -- and so was the end
 pub end_taken : (n : ℕ) (before next : Arrived) (t : ℕ) (line : List ℕ) → line_of line ≡ Some (end t) → after_line n before line ≡ Ok next
@@ -40,7 +42,8 @@ none_taken n before next line is took = by (length line == 0) refl
     by false empty = let bad = sym (after_line-read n before line None empty is) ∙ took in absurd (cc)
 
 -- the digits of such a line are pairs
-pub pairs_taken : (n : ℕ) (before next : Arrived) (t : ℕ) (digits line : List ℕ) → line_of line ≡ option_map (arrival t) (result_ok (decode_of digits)) → 0 < length line
+pub pairs_taken : (n : ℕ) (before next : Arrived) (t : ℕ) (digits line : List ℕ) → line_of line ≡ option_map (arrival t) (result_ok (decode_of digits))
+    → 0 < length line
     → after_line n before line ≡ Ok next → IsOk (decode_of digits)
 pairs_taken n before next t digits line says some took = by (decode_of digits) refl
   where
@@ -53,7 +56,8 @@ pairs_taken n before next t digits line says some took = by (decode_of digits) r
         absurd (cc)
 
 -- and half as many as they are arrived
-pub chunk_taken : (n : ℕ) (before next : Arrived) (t : ℕ) (digits line : List ℕ) → line_of line ≡ option_map (arrival t) (result_ok (decode_of digits)) → 0 < length line
+pub chunk_taken : (n : ℕ) (before next : Arrived) (t : ℕ) (digits line : List ℕ) → line_of line ≡ option_map (arrival t) (result_ok (decode_of digits))
+    → 0 < length line
     → after_line n before line ≡ Ok next → next.items ≡ before.items ++ next_chunk before.items (length digits / 2) t ∷ []
 chunk_taken n before next t digits line says some took = by (decode_of digits) refl
   where

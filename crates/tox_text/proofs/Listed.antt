@@ -1,5 +1,6 @@
 -- The elements of a list, and their texts one after the other.
-use Rattle.std.proofs.Common.{◌≡◌, ℕ, ◌+◌, ◌<◌, List, [], ◌∷◌, ◌++◌, length, take, drop, get_or, flat_map, map, refl, ap, sym, ◌∙◌, append-nil, zero-add, subst, arith}
+use Rattle.std.proofs.Common.{◌≡◌, ℕ, ◌+◌, ◌<◌, List, [], ◌∷◌, ◌++◌, length, take, drop, get_or, flat_map, map, refl, ap, sym, ◌∙◌, append-nil, zero-add, subst}
+use Rattle.std.proofs.Common.{arith}
 use denote.Bor.{Bor}
 use Rattle.std.specs.List.{enumerate_from, zip}
 use Rattle.std.proofs.lemmas.Grind.{flat_map-append}
@@ -37,7 +38,8 @@ flat_map-parts f xs i x here =
     ∙ ap (flat_map f) (take-append-drop i xs)
 
 -- elements of two lists stand beside one another at their index
-IsAt-zip : {X Y : Type 0} (xs : List X) (ys : List Y) (i : ℕ) (x : X) (y : Y) → i < length xs → i < length ys → IsAt (zip xs ys) i (get_or xs i x, get_or ys i y)
+IsAt-zip : {X Y : Type 0} (xs : List X) (ys : List Y) (i : ℕ) (x : X) (y : Y) → i < length xs → i < length ys
+    → IsAt (zip xs ys) i (get_or xs i x, get_or ys i y)
 IsAt-zip xs ys i x y below_xs below_ys =
     record { below = omega (arith, length-zip xs ys); default = (x, y); is = sym (get_or-zip xs ys i (x, y) below_xs below_ys) }
 
@@ -47,7 +49,8 @@ pub IsAt-pair : (keys : List (Bor (List ℕ))) (values : List ℕ) (i : ℕ) (ke
 IsAt-pair keys values i key value below_keys below_values =
     let below : i < length (map (λ k. k.now) keys) = omega (arith, length-map keys (λ k. k.now), below_keys) in
     let same = get_or-map (λ k. k.now) keys i key key.now below_keys in
-    subst (λ k. IsAt (zip (map (λ k. k.now) keys) values) i (k, get_or values i value)) same (IsAt-zip (map (λ k. k.now) keys) values i key.now value below below_values)
+    subst (λ k. IsAt (zip (map (λ k. k.now) keys) values) i (k, get_or values i value)) same
+    (IsAt-zip (map (λ k. k.now) keys) values i key.now value below below_values)
 
 -- an element stands beside its index
 pub IsAt-enumerate : {X : Type 0} (xs : List X) (i : ℕ) (x : X) → IsAt xs i x → IsAt (enumerate_from 0 xs) i (i, x)
@@ -60,7 +63,8 @@ IsAt-enumerate {X} xs i x here = record {
 }
 
 -- an element, and the text of its name, stand at their index
-pub IsAt-named : {X N : Type 0} (text : N → List ℕ) (xs : List X) (names : List N) (i : ℕ) (x : X) (name : N) → length names ≡ length xs → i < length xs → name ≡ get_or names i name
+pub IsAt-named : {X N : Type 0} (text : N → List ℕ) (xs : List X) (names : List N) (i : ℕ) (x : X) (name : N) → length names ≡ length xs → i < length xs
+    → name ≡ get_or names i name
     → IsAt (zip xs (map text names)) i (get_or xs i x, text name)
 IsAt-named text xs names i x name one_each below is =
     let named : i < length (map text names) = omega (arith, length-map names text, one_each, below) in
@@ -68,7 +72,8 @@ IsAt-named text xs names i x name one_each below is =
     subst (λ t. IsAt (zip xs (map text names)) i (get_or xs i x, t)) same (IsAt-zip xs (map text names) i x (text name) below named)
 
 -- and with their index
-pub IsAt-placed : {X N : Type 0} (text : N → List ℕ) (xs : List X) (names : List N) (i : ℕ) (x : X) (name : N) → length names ≡ length xs → i < length xs → name ≡ get_or names i name
+pub IsAt-placed : {X N : Type 0} (text : N → List ℕ) (xs : List X) (names : List N) (i : ℕ) (x : X) (name : N) → length names ≡ length xs → i < length xs
+    → name ≡ get_or names i name
     → IsAt (enumerate_from 0 (zip xs (map text names))) i (i, (get_or xs i x, text name))
 IsAt-placed text xs names i x name one_each below is =
     IsAt-enumerate (zip xs (map text names)) i (get_or xs i x, text name) (IsAt-named text xs names i x name one_each below is)

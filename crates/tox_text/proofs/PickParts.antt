@@ -7,7 +7,8 @@ use Rattle.tox_defs.specs.declared.chain.Entry.{Entry}
 use Rattle.tox_text.specs.PickText.{applied_word, picked_toxic_line}
 
 line_of_toxic : (draws : Draws) (place : ℕ) (entry : Entry) (name : List ℕ)
-    → (decimal place ++ codes " " ++ applied_word (is_applied entry place draws) ++ codes " ") ++ (printed_short entry.toxic entry.toxicity ++ (codes " " ++ (name ++ codes "\n")))
+    → (decimal place ++ codes " " ++ applied_word (is_applied entry place draws) ++ codes " ")
+    ++ (printed_short entry.toxic entry.toxicity ++ (codes " " ++ (name ++ codes "\n")))
     ≡ picked_toxic_line draws place entry name
 line_of_toxic draws place entry name = simp append_assoc
 

@@ -1,5 +1,6 @@
 -- Longest runs, and their lines, taken apart from the front.
-use Rattle.std.proofs.Common.{◌≡◌, ℕ, ◌+◌, ◌==◌, ◌&&◌, Bool, true, false, List, [], ◌∷◌, ◌++◌, length, map, replicate, slice_index, refl, arith, ap, sym, ◌∙◌, rules, tests, if◌then◌else◌, ◌<◌, suc}
+use Rattle.std.proofs.Common.{◌≡◌, ℕ, ◌+◌, ◌==◌, ◌&&◌, Bool, true, false, List, [], ◌∷◌, ◌++◌, length, map, replicate, slice_index, refl, arith, ap, sym, ◌∙◌}
+use Rattle.std.proofs.Common.{rules, tests, if◌then◌else◌, ◌<◌, suc}
 use Rattle.std.specs.List.{enumerate_from, flat_map}
 use Rattle.tox_text.specs.arrivals.ArrivalsText.{Arrived}
 use Rattle.tox_text.specs.ResultText.{Delivered, arrival_of, are_one_run, bytes_line, delivered_at, lines_text, onto_runs, run_line, runs_of}
@@ -24,13 +25,15 @@ onto_runs_cases : (first next : Delivered) (run : List Delivered) (runs : List (
 onto_runs_cases first next run runs same test = ap (λ b. if b then (first ∷ next ∷ run) ∷ runs else (first ∷ []) ∷ (next ∷ run) ∷ runs) test
 
 -- the first run begins with the first byte
-runs_of-head : (first : Delivered) (others : List Delivered) → (run : List Delivered) × (runs : List (List Delivered)) × (runs_of (first ∷ others) ≡ (first ∷ run) ∷ runs)
+runs_of-head : (first : Delivered) (others : List Delivered) → (run : List Delivered) × (runs : List (List Delivered))
+    × (runs_of (first ∷ others) ≡ (first ∷ run) ∷ runs)
 runs_of-head first [] = ([], [], refl)
 runs_of-head first (next ∷ others) =
     let rest = runs_of-head next others in
     headed first next rest.0 rest.1 (runs_of (next ∷ others)) rest.2 (are_one_run first next) refl
   where
-    headed : (first next : Delivered) (run : List Delivered) (runs found : List (List Delivered)) → found ≡ (next ∷ run) ∷ runs → (same : Bool) → are_one_run first next ≡ same
+    headed : (first next : Delivered) (run : List Delivered) (runs found : List (List Delivered)) → found ≡ (next ∷ run) ∷ runs → (same : Bool)
+        → are_one_run first next ≡ same
         → (run' : List Delivered) × (runs' : List (List Delivered)) × (onto_runs first found ≡ (first ∷ run') ∷ runs')
     headed first next run runs found is true test = (next ∷ run, runs, ap (onto_runs first) is ∙ onto_runs_cases first next run runs true test)
     headed first next run runs found is false test = ([], (next ∷ run) ∷ runs, ap (onto_runs first) is ∙ onto_runs_cases first next run runs false test)
@@ -93,6 +96,9 @@ delivered_from-run arrived arrival t position (b ∷ bytes) stands =
       of_arrival = λ k below. ap (arrival_of arrived.items) (next k) ∙ stands.of_arrival (suc k) (omega arith);
       at_place = λ k below. ap (slice_index arrived.bytes) (next k) ∙ stands.at_place (suc k) (omega arith);
     } in
-    ap (λ found. record { position = position; arrival = found; instant = t; value = slice_index arrived.bytes position } ∷ delivered_from arrived (position + 1) (replicate (length bytes) t)) of_arrival
-    ∙ ap (λ found. record { position = position; arrival = arrival; instant = t; value = found } ∷ delivered_from arrived (position + 1) (replicate (length bytes) t)) at_place
-    ∙ ap (λ others. record { position = position; arrival = arrival; instant = t; value = b } ∷ others) (delivered_from-run arrived arrival t (position + 1) bytes rest)
+    ap (λ found. record { position = position; arrival = found; instant = t; value = slice_index arrived.bytes position }
+    ∷ delivered_from arrived (position + 1) (replicate (length bytes) t)) of_arrival
+    ∙ ap (λ found. record { position = position; arrival = arrival; instant = t; value = found }
+    ∷ delivered_from arrived (position + 1) (replicate (length bytes) t)) at_place
+    ∙ ap (λ others. record { position = position; arrival = arrival; instant = t; value = b } ∷ others)
+    (delivered_from-run arrived arrival t (position + 1) bytes rest)

@@ -1,5 +1,6 @@
 -- Printed short forms, in the parts in which they are printed.
-use Rattle.std.proofs.Common.{◌≡◌, ℕ, Bool, true, false, filter, if◌then◌else◌, List, [], ◌∷◌, ◌++◌, codes, decimal, flat_map, map, append_assoc, append-nil, refl, ap, ◌∙◌}
+use Rattle.std.proofs.Common.{◌≡◌, ℕ, Bool, true, false, filter, if◌then◌else◌, List, [], ◌∷◌, ◌++◌, codes, decimal, flat_map, map, append_assoc, append-nil}
+use Rattle.std.proofs.Common.{refl, ap, ◌∙◌}
 use Rattle.std.specs.List.{join_with_byte, zip}
 use Rattle.tox_defs.specs.Toxic.{attributes_of, name_of, values_of}
 use Rattle.tox_defs.specs.short.Printed.{is_shown, printed_pair, printed_short}
@@ -25,8 +26,10 @@ abbrev pairs_of : Toxic → List (List ℕ)
 pairs_of toxic = map printed_pair (filter is_shown (zip (attributes_of toxic) (values_of toxic)))
 
 -- each pair that is printed with a comma behind it
-spelled_by : (shown : Bool) (pair : List ℕ × ℕ) (pairs : List (List ℕ × ℕ)) → flat_map shown_before_comma pairs ≡ flat_map (λ part. part ++ codes ",") (map printed_pair (filter is_shown pairs))
-    → (if shown then printed_pair pair ++ codes "," else []) ++ flat_map shown_before_comma pairs ≡ flat_map (λ part. part ++ codes ",") (map printed_pair (if shown then pair ∷ filter is_shown pairs else filter is_shown pairs))
+spelled_by : (shown : Bool) (pair : List ℕ × ℕ) (pairs : List (List ℕ × ℕ))
+    → flat_map shown_before_comma pairs ≡ flat_map (λ part. part ++ codes ",") (map printed_pair (filter is_shown pairs))
+    → (if shown then printed_pair pair ++ codes "," else []) ++ flat_map shown_before_comma pairs
+    ≡ flat_map (λ part. part ++ codes ",") (map printed_pair (if shown then pair ∷ filter is_shown pairs else filter is_shown pairs))
 spelled_by true pair pairs others = ap (λ text. (printed_pair pair ++ codes ",") ++ text) others
 spelled_by false pair pairs others = others
 

@@ -1,5 +1,6 @@
 -- Bytes on their way to a writer, in several steps.
-use Rattle.std.proofs.Common.{◌≡◌, ℕ, ◌-◌, ◌+◌, ◌≤◌, Bool, List, [], ◌++◌, length, take, drop, Option, Some, None, Result, Ok, Err, refl, arith, ap, sym, ◌∙◌, append_assoc, append-nil, length-drop}
+use Rattle.std.proofs.Common.{◌≡◌, ℕ, ◌-◌, ◌+◌, ◌≤◌, Bool, List, [], ◌++◌, length, take, drop, Option, Some, None, Result, Ok, Err, refl, arith, ap, sym, ◌∙◌}
+use Rattle.std.proofs.Common.{append_assoc, append-nil, length-drop}
 use Rattle.std.specs.Io.KnownBytes.{append_known}
 use Rattle.std.proofs.Math.Seq.{take-add}
 use Rattle.std.proofs.lemmas.List.{take_rest, take-append-drop}
@@ -15,7 +16,8 @@ append_known-nil None = refl
 append_known-nil (Some zs) = ap Some (sym (append-nil zs))
 
 -- one part behind the other
-pub append_known-then : (first old new : Option (List ℕ)) (a b : List ℕ) → old ≡ append_known first a → new ≡ append_known old b → new ≡ append_known first (a ++ b)
+pub append_known-then : (first old new : Option (List ℕ)) (a b : List ℕ) → old ≡ append_known first a → new ≡ append_known old b
+    → new ≡ append_known first (a ++ b)
 append_known-then first old new a b before after = after ∙ ap (λ known. append_known known b) before ∙ append_known-append first a b
 
 -- the first of what is left, behind what was written

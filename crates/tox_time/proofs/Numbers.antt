@@ -16,5 +16,6 @@ pub decimal_unread : {E : Type 0} (digits greatest : ℕ) (text : List ℕ) (rea
     → list_all is_ascii_digit text ≡ true → greatest < 2 ^ 64 → ParsesUnsigned 64 10 text read
     → None ≡ decimal_value digits greatest text
 decimal_unread digits greatest text read error unread all fits parsed =
-    let none = OkIff-at_err read ((0 < length text) × (digits_value 10 text < 2 ^ 64)) (digits_value 10 text) error (parse_digits ascii_digits 64 text read parsed all) unread in
+    let none = OkIff-at_err read ((0 < length text) × (digits_value 10 text < 2 ^ 64)) (digits_value 10 text) error
+    (parse_digits ascii_digits 64 text read parsed all) unread in
     grind (arith, common_steps, none)

@@ -43,7 +43,8 @@ HasReset-append (Reset t ∷ items) rest unended reset = absurd (cc)
 HasReset-append (Quiet ∷ items) rest unended reset = absurd (cc)
 
 -- a list goes on as a stream where a stream from its last position and instant follows it
-pub IsStreamFrom-append : (position since : ℕ) (items rest : List Item) → has_final items ≡ false → IsStreamFrom position since (arrival_list items) → IsStreamFrom (position + arrived items) (latest_from since items) rest → IsStreamFrom position since (items ++ rest)
+pub IsStreamFrom-append : (position since : ℕ) (items rest : List Item) → has_final items ≡ false → IsStreamFrom position since (arrival_list items)
+    → IsStreamFrom (position + arrived items) (latest_from since items) rest → IsStreamFrom position since (items ++ rest)
 IsStreamFrom-append position since [] rest unended stream goes_on =
     let P : ℕ → Type 0 = λ n. IsStreamFrom n since rest in
     let same : position + 0 ≡ position = omega arith in
@@ -58,7 +59,8 @@ IsStreamFrom-append position since (Quiet ∷ items) rest unended stream goes_on
 
 pub table-append : (items rest : List Item) → table (items ++ rest) ≡ table items ++ table rest
 table-append [] rest = refl
-table-append (Chunk span t ∷ items) rest = ap (λ ts. replicate (span_len span) t ++ ts) (table-append items rest) ∙ sym (append_assoc (replicate (span_len span) t) (table items) (table rest))
+table-append (Chunk span t ∷ items) rest = ap (λ ts. replicate (span_len span) t ++ ts) (table-append items rest)
+    ∙ sym (append_assoc (replicate (span_len span) t) (table items) (table rest))
 table-append (Closed t ∷ items) rest = table-append items rest
 table-append (Reset t ∷ items) rest = table-append items rest
 table-append (Quiet ∷ items) rest = table-append items rest

@@ -1,5 +1,6 @@
 -- The table of a text, by the number of its parts.
-use Rattle.std.proofs.Common.{◌≡◌, ℕ, ◌+◌, ◌<◌, ◌≤◌, Bool, true, false, cond, List, [], ◌∷◌, length, Option, Some, None, Ok, Err, arith, rules, tests, refl, ap, sym, ◌∙◌, is_none, nat_le, ◌==◌}
+use Rattle.std.proofs.Common.{◌≡◌, ℕ, ◌+◌, ◌<◌, ◌≤◌, Bool, true, false, cond, List, [], ◌∷◌, length, Option, Some, None, Ok, Err, arith, rules, tests, refl, ap}
+use Rattle.std.proofs.Common.{sym, ◌∙◌, is_none, nat_le, ◌==◌}
 use Rattle.std.specs.List.{cons_option, filter_map, position_from}
 use Rattle.std.specs.Option.{option_map_or}
 use Rattle.std.proofs.lemmas.Iterator.Adapters.{position_from-zero}

@@ -32,8 +32,8 @@ mod serve;
 mod shutdown;
 mod stages;
 mod status;
-mod warning_lines;
 mod wait;
+mod warning_lines;
 mod warnings;
 mod watch;
 

@@ -23,4 +23,5 @@ flags-same a b n (entry ∷ entries) same =
 pub flags-first : (lanes : Lanes) (seed conn : ℕ) (stream : Stream) (entries : List Entry) → length entries ≤ 32
     → applied_flags (draw_in lanes (take 32 (seeded_words seed conn stream))) entries ≡ applied_flags (draw_in lanes (seeded_words seed conn stream)) entries
 flags-first lanes seed conn stream entries few =
-    flags-same (draw_in lanes (take 32 (seeded_words seed conn stream))) (draw_in lanes (seeded_words seed conn stream)) 0 entries (λ lane below. draw_in-first lanes seed conn stream lane (omega arith))
+    flags-same (draw_in lanes (take 32 (seeded_words seed conn stream))) (draw_in lanes (seeded_words seed conn stream)) 0 entries
+    (λ lane below. draw_in-first lanes seed conn stream lane (omega arith))

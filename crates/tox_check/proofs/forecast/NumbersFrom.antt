@@ -31,4 +31,5 @@ IsAt-numbers_from first n k below = record {
 
 -- a number from 0 on stands at itself
 pub IsAt-numbers_from_0 : (n k : ℕ) → k < n → IsAt (numbers_from 0 n) k k
-IsAt-numbers_from_0 n k below = let same : k + 0 ≡ k = omega arith in let P : ℕ → Type 0 = λ i. IsAt (numbers_from 0 n) k i in subst P same (IsAt-numbers_from 0 n k below)
+IsAt-numbers_from_0 n k below = let same : k + 0 ≡ k = omega arith in let P : ℕ
+    → Type 0 = λ i. IsAt (numbers_from 0 n) k i in subst P same (IsAt-numbers_from 0 n k below)

@@ -1,5 +1,6 @@
 -- One more connection, counted.
-use Rattle.std.proofs.Common.{◌≡◌, ℕ, zero, suc, ◌+◌, ◌<◌, inl, inr, ◌&&◌, Bool, true, false, cond, List, [], ◌∷◌, ◌++◌, length, count_by, get_or, Option, None, Some, arith, refl, sym, ap, ◌∙◌, replicate, slice_index}
+use Rattle.std.proofs.Common.{◌≡◌, ℕ, zero, suc, ◌+◌, ◌<◌, inl, inr, ◌&&◌, Bool, true, false, cond, List, [], ◌∷◌, ◌++◌, length, count_by, get_or, Option, None}
+use Rattle.std.proofs.Common.{Some, arith, refl, sym, ap, ◌∙◌, replicate, slice_index}
 use mathlib.Core.Path.{fun_ext}
 use Rattle.std.proofs.lemmas.Bool.Decides.{eqb_tells}
 use Rattle.std.proofs.lemmas.List.{get_or-replicate, length-replicate}
@@ -28,16 +29,19 @@ module _ (proxy : List ℕ) (script : Rules) (seed : ℕ) where
   -- the totals so far, and what one more connection adds
   totals_step : (rule links : ℕ) (old new : Tally) (met : Bool) → meets proxy script rule (links + 1) ≡ met
       → new.met ≡ old.met + one_for met
-      → ((stream : Stream) (place : ℕ) → slice_index (counts_on stream new) place ≡ slice_index (counts_on stream old) place + one_for (met && flag_at place (flags_for proxy script seed (links + 1) stream)))
+      → ((stream : Stream) (place : ℕ) → slice_index (counts_on stream new) place
+      ≡ slice_index (counts_on stream old) place + one_for (met && flag_at place (flags_for proxy script seed (links + 1) stream)))
       → totals_in old ≡ totals_of proxy script seed rule (numbers_from 1 links) → totals_in new ≡ totals_of proxy script seed rule (numbers_from 1 (suc links))
   totals_step rule links old new met is more applied so_far =
       let all = numbers_from 1 links in
       totals_same (totals_in new) (totals_of proxy script seed rule (numbers_from 1 (suc links)))
-      (more ∙ ap (λ (t : Totals). t.met + one_for met) so_far ∙ ap (λ m. count_by (meets proxy script rule) all + one_for m) (sym is) ∙ sym (count_by-push (meets proxy script rule) all (links + 1)))
+      (more ∙ ap (λ (t : Totals). t.met + one_for met) so_far ∙ ap (λ m. count_by (meets proxy script rule) all + one_for m) (sym is)
+      ∙ sym (count_by-push (meets proxy script rule) all (links + 1)))
       (λ stream place.
       applied stream place
       ∙ ap (λ (t : Totals). t.applied stream place + one_for (met && flag_at place (flags_for proxy script seed (links + 1) stream))) so_far
-      ∙ ap (λ m. count_by (λ conn. meets proxy script rule conn && flag_at place (flags_for proxy script seed conn stream)) all + one_for (m && flag_at place (flags_for proxy script seed (links + 1) stream))) (sym is)
+      ∙ ap (λ m. count_by (λ conn. meets proxy script rule conn && flag_at place (flags_for proxy script seed conn stream)) all
+      + one_for (m && flag_at place (flags_for proxy script seed (links + 1) stream))) (sym is)
       ∙ sym (count_by-push (λ conn. meets proxy script rule conn && flag_at place (flags_for proxy script seed conn stream)) all (links + 1)))
 
   -- a connection that met another rule, or none
@@ -46,7 +50,8 @@ module _ (proxy : List ℕ) (script : Rules) (seed : ℕ) where
   totals_other rule links old new other same =
       totals_step rule links old new false other
       (let m : new.met ≡ old.met = ap (λ (t : Tally). t.met) same in omega arith)
-      (λ stream place. let n : slice_index (counts_on stream new) place ≡ slice_index (counts_on stream old) place = ap (λ (t : Tally). slice_index (counts_on stream t) place) same in omega arith)
+      (λ stream place. let n : slice_index (counts_on stream new) place ≡ slice_index (counts_on stream old) place =
+      ap (λ (t : Tally). slice_index (counts_on stream t) place) same in omega arith)
 
   -- one that met this rule
   totals_here : (rule links : ℕ) (flags : LinkFlags) (old new : Tally) → meets proxy script rule (links + 1) ≡ true → CountsLink flags old new
@@ -54,7 +59,8 @@ module _ (proxy : List ℕ) (script : Rules) (seed : ℕ) where
       → totals_in old ≡ totals_of proxy script seed rule (numbers_from 1 links) → totals_in new ≡ totals_of proxy script seed rule (numbers_from 1 (suc links))
   totals_here rule links flags old new here counts up down = totals_step rule links old new true here counts.met applied
     where
-      applied : (stream : Stream) (place : ℕ) → slice_index (counts_on stream new) place ≡ slice_index (counts_on stream old) place + one_for (true && flag_at place (flags_for proxy script seed (links + 1) stream))
+      applied : (stream : Stream) (place : ℕ) → slice_index (counts_on stream new) place
+          ≡ slice_index (counts_on stream old) place + one_for (true && flag_at place (flags_for proxy script seed (links + 1) stream))
       applied Upstream place = counts.upstream place ∙ ap (λ fs. slice_index old.upstream place + one_for (flag_at place fs)) up
       applied Downstream place = counts.downstream place ∙ ap (λ fs. slice_index old.downstream place + one_for (flag_at place fs)) down
 
@@ -72,9 +78,11 @@ module _ (proxy : List ℕ) (script : Rules) (seed : ℕ) where
       elim (eqb_tells met rule) [
         | inl same ↦
             let at_rule : CountsOne rule flags old new = rw same.1 at counts in
-            totals_here rule links flags (get_or old rule d) (get_or new rule d) (ap (is_rule rule) (sym is) ∙ same.0) (at_rule.here d within) up down (tallied rule d within)
+            totals_here rule links flags (get_or old rule d) (get_or new rule d) (ap (is_rule rule) (sym is) ∙ same.0) (at_rule.here d within) up down
+            (tallied rule d within)
         | inr other ↦
-            totals_other rule links (get_or old rule d) (get_or new rule d) (ap (is_rule rule) (sym is) ∙ other.0) (counts.others rule d (λ e. other.1 (sym e))) (tallied rule d within)
+            totals_other rule links (get_or old rule d) (get_or new rule d) (ap (is_rule rule) (sym is) ∙ other.0) (counts.others rule d (λ e. other.1 (sym e)))
+            (tallied rule d within)
       ]
 
   -- no count exceeds the connections
@@ -86,8 +94,10 @@ module _ (proxy : List ℕ) (script : Rules) (seed : ℕ) where
       let long = length-numbers_from 1 links in
       record {
         met = let m = ap (λ (t : Totals). t.met) is in omega (arith, count_by-le-length (meets proxy script rule) all);
-        upstream = λ place. let m = ap (λ (t : Totals). t.applied Upstream place) is in omega (arith, count_by-le-length (λ conn. meets proxy script rule conn && flag_at place (flags_for proxy script seed conn Upstream)) all);
-        downstream = λ place. let m = ap (λ (t : Totals). t.applied Downstream place) is in omega (arith, count_by-le-length (λ conn. meets proxy script rule conn && flag_at place (flags_for proxy script seed conn Downstream)) all);
+        upstream = λ place. let m = ap (λ (t : Totals). t.applied Upstream place) is in
+            omega (arith, count_by-le-length (λ conn. meets proxy script rule conn && flag_at place (flags_for proxy script seed conn Upstream)) all);
+        downstream = λ place. let m = ap (λ (t : Totals). t.applied Downstream place) is in
+            omega (arith, count_by-le-length (λ conn. meets proxy script rule conn && flag_at place (flags_for proxy script seed conn Downstream)) all);
       }
 
 zeros : (n place : ℕ) → slice_index (replicate n 0) place ≡ 0
@@ -100,7 +110,8 @@ uncounted Upstream place = zeros 32 place
 uncounted Downstream place = zeros 32 place
 
 -- nothing is counted of no connection
-pub IsTallied-none : (proxy : List ℕ) (script : Rules) (seed n : ℕ) (tallies : List Tally) → tallies ≡ replicate n no_counts → IsTallied proxy script seed 0 tallies
+pub IsTallied-none : (proxy : List ℕ) (script : Rules) (seed n : ℕ) (tallies : List Tally) → tallies ≡ replicate n no_counts
+    → IsTallied proxy script seed 0 tallies
 IsTallied-none proxy script seed n tallies is =
     λ rule d below.
     let within : rule < n = let e = ap length is in omega (arith, length-replicate n no_counts) in

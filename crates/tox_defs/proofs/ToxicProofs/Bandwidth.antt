@@ -1,5 +1,6 @@
 -- bandwidth: it keeps streams and bytes, what a look finds, and its law.
-use Rattle.std.proofs.Common.{◌≡◌, ℕ, zero, suc, ◌+◌, ◌-◌, ◌*◌, ◌<◌, ◌≤◌, max, true, false, List, [], ◌∷◌, ◌++◌, refl, arith, inl, min, ap, length, replicate, append_assoc, mul_comm, add-zero}
+use Rattle.std.proofs.Common.{◌≡◌, ℕ, zero, suc, ◌+◌, ◌-◌, ◌*◌, ◌<◌, ◌≤◌, max, true, false, List, [], ◌∷◌, ◌++◌, refl, arith, inl, min, ap, length, replicate}
+use Rattle.std.proofs.Common.{append_assoc, mul_comm, add-zero}
 use Rattle.std.specs.Prelude.{slice_index}
 use Rattle.std.specs.Int.{div_ceil}
 use Rattle.std.proofs.lemmas.Grind.{div_ceil_times}
@@ -38,9 +39,11 @@ use Rattle.tox_time.specs.declared.streams.ending.Ending.TheVariants.{StillOpen,
 use Rattle.tox_defs.proofs.OpFacts.{OpFacts}
 use Rattle.tox_defs.specs.declared.operations.op.Op.TheVariants.{Pace}
 
-paced_final : (rate previous chunks pieces passed : ℕ) (item : Item) (position since : ℕ) → previous ≤ horizon → is_final item ≡ true → CanFollow position since item → IsStreamFrom position previous (pace_gives rate (open_state previous chunks pieces passed) item)
+paced_final : (rate previous chunks pieces passed : ℕ) (item : Item) (position since : ℕ) → previous ≤ horizon → is_final item ≡ true
+    → CanFollow position since item → IsStreamFrom position previous (pace_gives rate (open_state previous chunks pieces passed) item)
 paced_final rate previous chunks pieces passed (Chunk span t) position since fits final follows = absurd (cc)
-paced_final rate previous chunks pieces passed (Closed t) position since fits final follows = in_order_final previous position since (Closed t) fits final follows
+paced_final rate previous chunks pieces passed (Closed t) position since fits final follows =
+    in_order_final previous position since (Closed t) fits final follows
 paced_final rate previous chunks pieces passed (Reset t) position since fits final follows = in_order_final previous position since (Reset t) fits final follows
 paced_final rate previous chunks pieces passed Quiet position since fits final follows = refl
 
@@ -48,27 +51,38 @@ pub paced_keeps : (rate : ℕ) → 0 < rate → KeepsStreams Whatever (counted (
 paced_keeps rate positive = record {
   at_chunk = λ previous chunks pieces passed span t since fits related some late instant.
       inl (leave_goes_on (λ _. 100 * rate) (λ len. div_ceil (1000 * len) rate) (λ n. omega (arith, positive)) 0 previous t span fits some instant);
-  at_final = λ previous chunks pieces passed item position since fits related final follows. paced_final rate previous chunks pieces passed item position since fits final follows;
+  at_final = λ previous chunks pieces passed item position since fits related final follows.
+      paced_final rate previous chunks pieces passed item position since fits final follows;
   follows = counted_follows (pace_gives rate);
 }
 
 pub paced-passes : (rate : ℕ) → PassesAtMost (counted (pace_gives rate))
-paced-passes rate state (Chunk span t) = omega (arith, arrived-leave (λ _. 100 * rate) (λ len. div_ceil (1000 * len) rate) 0 span.start (span_len span) (span_len span) state.previous t)
+paced-passes rate state (Chunk span t) = omega (
+  arith,
+  arrived-leave (λ _. 100 * rate) (λ len. div_ceil (1000 * len) rate) 0 span.start (span_len span)
+      (span_len span) state.previous t,
+)
 paced-passes rate state (Closed t) = omega arith
 paced-passes rate state (Reset t) = omega arith
 paced-passes rate state Quiet = omega arith
 
 pub paced-cuts : (rate : ℕ) → Cuts (pace_gives rate) (λ _. 100 * rate) (λ len. div_ceil (1000 * len) rate)
 paced-cuts rate state span t =
-    ap (λ spans. leave (λ len. div_ceil (1000 * len) rate) state.previous t spans) (cut-same_size (100 * rate) 0 state.pieces span.start (span_len span) (span_len span))
+    ap (λ spans. leave (λ len. div_ceil (1000 * len) rate) state.previous t spans)
+    (cut-same_size (100 * rate) 0 state.pieces span.start (span_len span) (span_len span))
 
 -- what comes first of a chunk that a pace cuts
 pub pace_found : (rate : ℕ) (state : State) (rest piece : Slice) (items : List Item) → 0 < rate
     → state.done ≡ false → rest.span.start < rest.span.stop
-    → piece ≡ record { span = first_span (100 * rate) rest.span; instant = plus (max state.previous rest.instant) (div_ceil (1000 * span_len (first_span (100 * rate) rest.span)) rate) }
+    → piece ≡ record {
+      span = first_span (100 * rate) rest.span;
+      instant =
+          plus (max state.previous rest.instant) (div_ceil (1000 * span_len (first_span (100 * rate) rest.span)) rate);
+    }
     → Finds (counted (pace_gives rate)) state rest items (Piece piece)
 pace_found rate state rest piece items positive running nonempty found =
-    cut_found (pace_gives rate) (λ _. 100 * rate) (λ len. div_ceil (1000 * len) rate) (λ _. omega (arith, positive)) (paced-cuts rate) state rest piece items running nonempty found
+    cut_found (pace_gives rate) (λ _. 100 * rate) (λ len. div_ceil (1000 * len) rate) (λ _. omega (arith, positive)) (paced-cuts rate) state rest piece items
+    running nonempty found
 
 -- a product below another, by the other factor
 below_by : (d m n : ℕ) → m * d < n * d → m < n
@@ -81,7 +95,8 @@ div_ceil-add x y d positive =
     let left = div_ceil_times x d positive in
     let right = div_ceil_times y d positive in
     let spread : (div_ceil x d + div_ceil y d + 1) * d ≡ div_ceil x d * d + div_ceil y d * d + d = grind arith in
-    let below : div_ceil (x + y) d < div_ceil x d + div_ceil y d + 1 = below_by d (div_ceil (x + y) d) (div_ceil x d + div_ceil y d + 1) (omega (arith, sum.1, left.0, right.0, spread)) in
+    let below : div_ceil (x + y) d < div_ceil x d + div_ceil y d + 1 = below_by d (div_ceil (x + y) d) (div_ceil x d + div_ceil y d + 1)
+    (omega (arith, sum.1, left.0, right.0, spread)) in
     omega (arith, below)
 
 div_ceil-le : (x y d : ℕ) → 0 < d → x ≤ y → div_ceil x d ≤ div_ceil y d
@@ -105,7 +120,8 @@ due-le : (rate first m n : ℕ) → 0 < rate → m ≤ n → due rate first m �
 due-le rate first m n positive order =
     let more = div_ceil-le (1000 * m) (1000 * n) rate positive (omega arith) in omega (arith, more)
 
-AreDue-replicate : (rate first n count at : ℕ) (ts : List ℕ) → 0 < rate → due rate first (n + count) ≤ at → AreDue rate first (n + count) ts → AreDue rate first n (replicate count at ++ ts)
+AreDue-replicate : (rate first n count at : ℕ) (ts : List ℕ) → 0 < rate → due rate first (n + count) ≤ at → AreDue rate first (n + count) ts
+    → AreDue rate first n (replicate count at ++ ts)
 AreDue-replicate rate first n zero at ts positive late others = rw (add-zero n) at others
 AreDue-replicate rate first n (suc count) at ts positive late others =
     let next : n + suc count ≡ n + 1 + count = omega arith in
@@ -120,7 +136,9 @@ piece_due rate first n len start_at positive before =
     rw parts (omega (arith, more, before))
 
 -- the pieces of an arrival, before what is due after them
-leave_due : (rate first size number start left fuel since t n : ℕ) (ts : List ℕ) → 0 < rate → 0 < size → left ≤ fuel → due rate first n ≤ max since t → AreDue rate first (n + left) ts → AreDue rate first n (table (leave (λ len. div_ceil (1000 * len) rate) since t (cut (λ _. size) number start left fuel)) ++ ts)
+leave_due : (rate first size number start left fuel since t n : ℕ) (ts : List ℕ) → 0 < rate → 0 < size → left ≤ fuel → due rate first n ≤ max since t
+    → AreDue rate first (n + left) ts → AreDue rate first n (table (leave (λ len. div_ceil (1000 * len) rate) since t (cut (λ _. size) number start left fuel))
+    ++ ts)
 leave_due rate first size number start zero fuel since t n ts positive some enough before others = rw (add-zero n) at others
 leave_due rate first size number start (suc left) zero since t n ts positive some enough before others = absurd (omega (arith, enough))
 leave_due rate first size number start (suc left) (suc fuel) since t n ts positive some enough before others =
@@ -130,10 +148,13 @@ leave_due rate first size number start (suc left) (suc fuel) since t n ts positi
     rw width
     (rw (append_assoc (replicate (min size (suc left)) (plus (max since t) (div_ceil (1000 * min size (suc left)) rate))))
     (AreDue-replicate rate first n (min size (suc left)) (plus (max since t) (div_ceil (1000 * min size (suc left)) rate)) _ positive late
-    (leave_due rate first size (number + 1) (start + min size (suc left)) (suc left - size) fuel (plus (max since t) (div_ceil (1000 * min size (suc left)) rate)) t (n + min size (suc left)) ts positive some (omega (arith, enough, some)) (omega (arith, late)) (rw rest at others))))
+    (leave_due rate first size (number + 1) (start + min size (suc left)) (suc left - size) fuel
+    (plus (max since t) (div_ceil (1000 * min size (suc left)) rate)) t (n + min size (suc left)) ts positive some (omega (arith, enough, some))
+    (omega (arith, late)) (rw rest at others))))
 
 -- the last piece of an arrival leaves when its last byte is due, or later
-leave_latest : (rate first size number start left fuel since t n : ℕ) → 0 < rate → 0 < size → left ≤ fuel → due rate first n ≤ max since t → due rate first (n + left) ≤ max (latest_from since (leave (λ len. div_ceil (1000 * len) rate) since t (cut (λ _. size) number start left fuel))) t
+leave_latest : (rate first size number start left fuel since t n : ℕ) → 0 < rate → 0 < size → left ≤ fuel → due rate first n ≤ max since t
+    → due rate first (n + left) ≤ max (latest_from since (leave (λ len. div_ceil (1000 * len) rate) since t (cut (λ _. size) number start left fuel))) t
 leave_latest rate first size number start zero fuel since t n positive some enough before = rw (add-zero n) before
 leave_latest rate first size number start (suc left) zero since t n positive some enough before = absurd (omega (arith, enough))
 leave_latest rate first size number start (suc left) (suc fuel) since t n positive some enough before =
@@ -141,32 +162,44 @@ leave_latest rate first size number start (suc left) (suc fuel) since t n positi
     let rest : n + suc left ≡ n + min size (suc left) + (suc left - size) = omega arith in
     let late = piece_due rate first n (min size (suc left)) (max since t) positive before in
     rw (width, rest)
-    (leave_latest rate first size (number + 1) (start + min size (suc left)) (suc left - size) fuel (plus (max since t) (div_ceil (1000 * min size (suc left)) rate)) t (n + min size (suc left)) positive some (omega (arith, enough, some)) (omega (arith, late)))
+    (leave_latest rate first size (number + 1) (start + min size (suc left)) (suc left - size) fuel
+    (plus (max since t) (div_ceil (1000 * min size (suc left)) rate)) t (n + min size (suc left)) positive some (omega (arith, enough, some))
+    (omega (arith, late)))
 
 AreDue-nil : (rate first n : ℕ) (ts : List ℕ) → ts ≡ [] → AreDue rate first n ts
 AreDue-nil rate first n ts none = rw none tt
 
-table-last : (rate previous chunks pieces passed : ℕ) (item : Item) (items : List Item) → items ≡ [] → table (item ∷ []) ≡ [] → is_final item ≡ true → table (flow_from (counted (pace_gives rate)) (open_state previous chunks pieces passed) (item ∷ items)) ≡ []
+table-last : (rate previous chunks pieces passed : ℕ) (item : Item) (items : List Item) → items ≡ [] → table (item ∷ []) ≡ [] → is_final item ≡ true
+    → table (flow_from (counted (pace_gives rate)) (open_state previous chunks pieces passed) (item ∷ items)) ≡ []
 table-last rate previous chunks pieces passed (Chunk span t) items none bare final = absurd (cc)
-table-last rate previous chunks pieces passed (Closed t) items none bare final = ap table (flow_from-last (counted (pace_gives rate)) (open_state previous chunks pieces passed) (Closed t) items none)
-table-last rate previous chunks pieces passed (Reset t) items none bare final = ap table (flow_from-last (counted (pace_gives rate)) (open_state previous chunks pieces passed) (Reset t) items none)
-table-last rate previous chunks pieces passed Quiet items none bare final = ap table (flow_from-last (counted (pace_gives rate)) (open_state previous chunks pieces passed) Quiet items none)
+table-last rate previous chunks pieces passed (Closed t) items none bare final =
+    ap table (flow_from-last (counted (pace_gives rate)) (open_state previous chunks pieces passed) (Closed t) items none)
+table-last rate previous chunks pieces passed (Reset t) items none bare final =
+    ap table (flow_from-last (counted (pace_gives rate)) (open_state previous chunks pieces passed) (Reset t) items none)
+table-last rate previous chunks pieces passed Quiet items none bare final =
+    ap table (flow_from-last (counted (pace_gives rate)) (open_state previous chunks pieces passed) Quiet items none)
 
 -- every byte of a bandwidth's flow leaves when it is due, or later
-pub AreDue-flow : (rate first : ℕ) (items : List Item) (previous chunks pieces passed position since n : ℕ) → 0 < rate → due rate first n ≤ max previous since → IsStreamFrom position since items → AreDue rate first n (table (flow_from (counted (pace_gives rate)) (open_state previous chunks pieces passed) items))
+pub AreDue-flow : (rate first : ℕ) (items : List Item) (previous chunks pieces passed position since n : ℕ) → 0 < rate → due rate first n ≤ max previous since
+    → IsStreamFrom position since items → AreDue rate first n (table (flow_from (counted (pace_gives rate)) (open_state previous chunks pieces passed) items))
 AreDue-flow rate first [] previous chunks pieces passed position since n positive before stream = tt
 AreDue-flow rate first (Chunk span t ∷ items) previous chunks pieces passed position since n positive before stream =
     let size : 0 < 100 * rate = omega arith in
     let ready : due rate first n ≤ max previous t = omega (arith, before, stream.2) in
     let given : List Item = leave (λ len. div_ceil (1000 * len) rate) previous t (cut (λ _. 100 * rate) 0 span.start (span_len span) (span_len span)) in
     rw (has_final-leave (λ len. div_ceil (1000 * len) rate) previous t (cut (λ _. 100 * rate) 0 span.start (span_len span) (span_len span)))
-    (rw (table-append given (flow_from (counted (pace_gives rate)) (open_state (latest_from previous given) (chunks + 1) (pieces + chunk_count given) (passed + arrived given)) items))
+    (rw (table-append given (flow_from (counted (pace_gives rate)) (open_state (latest_from previous given) (chunks + 1) (pieces + chunk_count given)
+    (passed + arrived given)) items))
     (leave_due rate first (100 * rate) 0 span.start (span_len span) (span_len span) previous t n _ positive size (omega arith) ready
-    (AreDue-flow rate first items (latest_from previous given) (chunks + 1) (pieces + chunk_count given) (passed + arrived given) span.stop t (n + span_len span) positive
+    (AreDue-flow rate first items (latest_from previous given) (chunks + 1) (pieces + chunk_count given) (passed + arrived given) span.stop t
+    (n + span_len span) positive
     (leave_latest rate first (100 * rate) 0 span.start (span_len span) (span_len span) previous t n positive size (omega arith) ready) stream.4)))
-AreDue-flow rate first (Closed t ∷ items) previous chunks pieces passed position since n positive before stream = AreDue-nil rate first n _ (table-last rate previous chunks pieces passed (Closed t) items stream.2 refl refl)
-AreDue-flow rate first (Reset t ∷ items) previous chunks pieces passed position since n positive before stream = AreDue-nil rate first n _ (table-last rate previous chunks pieces passed (Reset t) items stream.2 refl refl)
-AreDue-flow rate first (Quiet ∷ items) previous chunks pieces passed position since n positive before stream = AreDue-nil rate first n _ (table-last rate previous chunks pieces passed Quiet items stream refl refl)
+AreDue-flow rate first (Closed t ∷ items) previous chunks pieces passed position since n positive before stream =
+    AreDue-nil rate first n _ (table-last rate previous chunks pieces passed (Closed t) items stream.2 refl refl)
+AreDue-flow rate first (Reset t ∷ items) previous chunks pieces passed position since n positive before stream =
+    AreDue-nil rate first n _ (table-last rate previous chunks pieces passed (Reset t) items stream.2 refl refl)
+AreDue-flow rate first (Quiet ∷ items) previous chunks pieces passed position since n positive before stream =
+    AreDue-nil rate first n _ (table-last rate previous chunks pieces passed Quiet items stream refl refl)
 
 -- the n-th byte, by its number
 pub AreDue-at : (rate first start : ℕ) (ts : List ℕ) (n : ℕ) → AreDue rate first start ts → n < length ts → due rate first (start + n + 1) ≤ slice_index ts n
@@ -188,15 +221,19 @@ IsStreamFrom-first (Reset t ∷ items) position stream = stream
 IsStreamFrom-first (Quiet ∷ items) position stream = stream
 
 -- the manual's law of bandwidth
-pub bandwidth_law : (rate : ℕ) (items : List Item) (n : ℕ) → 0 < rate → IsStreamFrom 0 0 items → n < length (table (flow_from (counted (pace_gives rate)) (open_state 0 0 0 0) items)) → due rate (first_instant items) (n + 1) ≤ slice_index (table (flow_from (counted (pace_gives rate)) (open_state 0 0 0 0) items)) n
+pub bandwidth_law : (rate : ℕ) (items : List Item) (n : ℕ) → 0 < rate → IsStreamFrom 0 0 items
+    → n < length (table (flow_from (counted (pace_gives rate)) (open_state 0 0 0 0) items))
+    → due rate (first_instant items) (n + 1) ≤ slice_index (table (flow_from (counted (pace_gives rate)) (open_state 0 0 0 0) items)) n
 bandwidth_law rate items n positive stream within =
     let zero_due = due-zero rate (first_instant items) positive in
     let same : 0 + n + 1 ≡ n + 1 = omega arith in
-    rw same at (AreDue-at rate (first_instant items) 0 _ n (AreDue-flow rate (first_instant items) items 0 0 0 0 0 (first_instant items) 0 positive (omega (arith, zero_due)) (IsStreamFrom-first items 0 stream)) within)
+    rw same at (AreDue-at rate (first_instant items) 0 _ n (AreDue-flow rate (first_instant items) items 0 0 0 0 0 (first_instant items) 0 positive
+    (omega (arith, zero_due)) (IsStreamFrom-first items 0 stream)) within)
 
 bandwidth_within : (rate : ℕ) → GivesWithin (pace_gives rate)
 bandwidth_within rate state (Chunk span t) items =
-    leave_within (λ _. 100 * rate) (λ len. div_ceil (1000 * len) rate) 0 span.start (span_len span) (span_len span) state.previous t span t items (omega arith) (λ some. omega arith)
+    leave_within (λ _. 100 * rate) (λ len. div_ceil (1000 * len) rate) 0 span.start (span_len span) (span_len span) state.previous t span t items (omega arith)
+    (λ some. omega arith)
 bandwidth_within rate state (Closed t) items = tt
 bandwidth_within rate state (Reset t) items = tt
 bandwidth_within rate state Quiet items = tt
@@ -230,6 +267,7 @@ pace_final rate state (ResetAt t) = refl
 
 pub pace_facts : (rate until from : ℕ) → OpFacts (Pace rate until from)
 pace_facts rate until from = record {
-  streams = λ draws items fits stream. IsStreamFrom-flow Whatever _ (during_keeps from until _ (paced_keeps rate fits)) items 0 0 0 0 0 0 (omega arith) tt stream;
+  streams = λ draws items fits stream. IsStreamFrom-flow Whatever _ (during_keeps from until _ (paced_keeps rate fits)) items 0 0 0 0 0 0 (omega arith) tt
+      stream;
   final = λ draws. pace_final rate;
 }

@@ -22,8 +22,10 @@ close_at t = ClosedAt t
 limited_keeps : (bytes : ℕ) → KeepsStreams NotAfter (counted (limit_gives bytes))
 limited_keeps bytes = record {
   at_chunk = λ previous chunks pieces passed span t since fits before some late t_fits.
-      bytes_chunk NotAfter bytes close_at previous chunks pieces passed span t (nat_lt (span_len span) (bytes - passed)) refl (omega (arith, before, late)) (omega arith) some t_fits (omega arith, t_fits);
-  at_final = λ previous chunks pieces passed item position since fits before final follows. bytes_at_final bytes close_at previous chunks pieces passed item position since before final follows;
+      bytes_chunk NotAfter bytes close_at previous chunks pieces passed span t (nat_lt (span_len span) (bytes - passed)) refl (omega (arith, before, late))
+      (omega arith) some t_fits (omega arith, t_fits);
+  at_final = λ previous chunks pieces passed item position since fits before final follows.
+      bytes_at_final bytes close_at previous chunks pieces passed item position since before final follows;
   follows = counted_follows (limit_gives bytes);
 }
 
@@ -43,6 +45,7 @@ limit_data_facts bytes = record {
 
 pub limit_facts : (bytes : ℕ) → OpFacts (Limit bytes)
 limit_facts bytes = record {
-  streams = λ draws items fits stream. IsStreamFrom-flow NotAfter (counted (limit_gives bytes)) (limited_keeps bytes) items 0 0 0 0 0 0 (omega arith) (omega arith) stream;
+  streams = λ draws items fits stream. IsStreamFrom-flow NotAfter (counted (limit_gives bytes)) (limited_keeps bytes) items 0 0 0 0 0 0 (omega arith)
+      (omega arith) stream;
   final = λ draws state end. one_final (limit_gives bytes state _) end (bytes_final bytes close_at state end);
 }

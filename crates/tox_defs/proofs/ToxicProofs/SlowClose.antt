@@ -26,17 +26,21 @@ use Rattle.tox_defs.specs.declared.operations.state.State.{State}
 use Rattle.tox_defs.proofs.OpFacts.{OpFacts}
 use Rattle.tox_defs.specs.declared.operations.op.Op.TheVariants.{Slow}
 
-closed_later_final : (micros previous chunks pieces passed : ℕ) (item : Item) (position since : ℕ) → previous ≤ since → previous ≤ horizon → is_final item ≡ true → CanFollow position since item → IsStreamFrom position previous (slow_gives micros (open_state previous chunks pieces passed) item)
+closed_later_final : (micros previous chunks pieces passed : ℕ) (item : Item) (position since : ℕ) → previous ≤ since → previous ≤ horizon
+    → is_final item ≡ true → CanFollow position since item → IsStreamFrom position previous (slow_gives micros (open_state previous chunks pieces passed) item)
 closed_later_final micros previous chunks pieces passed (Chunk span t) position since before fits final follows = absurd (cc)
-closed_later_final micros previous chunks pieces passed (Closed t) position since before fits final follows = (omega (arith, before, fits, follows.0), omega arith, refl)
-closed_later_final micros previous chunks pieces passed (Reset t) position since before fits final follows = unchanged_final previous position since (Reset t) before final follows
+closed_later_final micros previous chunks pieces passed (Closed t) position since before fits final follows =
+    (omega (arith, before, fits, follows.0), omega arith, refl)
+closed_later_final micros previous chunks pieces passed (Reset t) position since before fits final follows =
+    unchanged_final previous position since (Reset t) before final follows
 closed_later_final micros previous chunks pieces passed Quiet position since before fits final follows = refl
 
 pub closed_later_keeps : (micros : ℕ) → KeepsStreams NotAfter (counted (slow_gives micros))
 closed_later_keeps micros = record {
   at_chunk = λ previous chunks pieces passed span t since fits before some late instant.
       inl (record { in_row = (refl, some, omega (arith, before, late), instant, refl); no_final = refl; related = omega arith; instant = instant });
-  at_final = λ previous chunks pieces passed item position since fits before final follows. closed_later_final micros previous chunks pieces passed item position since before fits final follows;
+  at_final = λ previous chunks pieces passed item position since fits before final follows.
+      closed_later_final micros previous chunks pieces passed item position since before fits final follows;
   follows = counted_follows (slow_gives micros);
 }
 
@@ -47,7 +51,8 @@ closed_later-passes micros state (Reset t) = omega arith
 closed_later-passes micros state Quiet = omega arith
 
 -- slow_close leaves every chunk as it is
-pub table-slow_close : (delay : ℕ) (words : ℕ → ℕ) (items : List Item) (previous chunks pieces passed position since : ℕ) → IsStreamFrom position since items → table (flow_from (toxic_reaction (SlowClose delay) words) (open_state previous chunks pieces passed) items) ≡ table items
+pub table-slow_close : (delay : ℕ) (words : ℕ → ℕ) (items : List Item) (previous chunks pieces passed position since : ℕ) → IsStreamFrom position since items
+    → table (flow_from (toxic_reaction (SlowClose delay) words) (open_state previous chunks pieces passed) items) ≡ table items
 table-slow_close delay words [] previous chunks pieces passed position since stream = refl
 table-slow_close delay words (Chunk span t ∷ items) previous chunks pieces passed position since stream =
     ap (λ ts. replicate (span_len span) t ++ ts) (table-slow_close delay words items _ _ _ _ span.stop t stream.4)
@@ -79,13 +84,15 @@ slow_close_facts delay = record {
   short = λ inside. grind (arith, common_steps);
 }
 
-slow_final : (micros : ℕ) (state : State) (end : Ending) → slow_gives micros state (final_of end) ≡ final_of (ending (slow_gives micros state (final_of end))) ∷ []
+slow_final : (micros : ℕ) (state : State) (end : Ending) → slow_gives micros state (final_of end)
+    ≡ final_of (ending (slow_gives micros state (final_of end))) ∷ []
 slow_final micros state StillOpen = refl
 slow_final micros state (ClosedAt t) = refl
 slow_final micros state (ResetAt t) = refl
 
 pub slow_facts : (millis : ℕ) → OpFacts (Slow millis)
 slow_facts millis = record {
-  streams = λ draws items fits stream. IsStreamFrom-flow NotAfter (counted (slow_gives (1000 * millis))) (closed_later_keeps (1000 * millis)) items 0 0 0 0 0 0 (omega arith) (omega arith) stream;
+  streams = λ draws items fits stream. IsStreamFrom-flow NotAfter (counted (slow_gives (1000 * millis))) (closed_later_keeps (1000 * millis)) items 0 0 0 0 0 0
+      (omega arith) (omega arith) stream;
   final = λ draws. slow_final (1000 * millis);
 }

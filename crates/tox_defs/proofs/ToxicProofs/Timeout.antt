@@ -32,12 +32,17 @@ use Rattle.tox_defs.proofs.Finals.{IsStream-final, ending-final_of}
 use Rattle.tox_defs.specs.declared.operations.op.Op.TheVariants.{Mute}
 
 -- a mute gives its final alone
-pub flow_from-muted : (final : Item) (items : List Item) (previous chunks pieces passed position since : ℕ) → IsStreamFrom position since items → flow_from (counted (mute_gives final)) (open_state previous chunks pieces passed) items ≡ final ∷ []
+pub flow_from-muted : (final : Item) (items : List Item) (previous chunks pieces passed position since : ℕ) → IsStreamFrom position since items
+    → flow_from (counted (mute_gives final)) (open_state previous chunks pieces passed) items ≡ final ∷ []
 flow_from-muted final [] previous chunks pieces passed position since stream = absurd stream
-flow_from-muted final (Chunk span t ∷ items) previous chunks pieces passed position since stream = flow_from-muted final items previous (chunks + 1) (pieces + 0) (passed + 0) span.stop t stream.4
-flow_from-muted final (Closed t ∷ items) previous chunks pieces passed position since stream = flow_from-last (counted (mute_gives final)) (open_state previous chunks pieces passed) (Closed t) items stream.2
-flow_from-muted final (Reset t ∷ items) previous chunks pieces passed position since stream = flow_from-last (counted (mute_gives final)) (open_state previous chunks pieces passed) (Reset t) items stream.2
-flow_from-muted final (Quiet ∷ items) previous chunks pieces passed position since stream = flow_from-last (counted (mute_gives final)) (open_state previous chunks pieces passed) Quiet items stream
+flow_from-muted final (Chunk span t ∷ items) previous chunks pieces passed position since stream =
+    flow_from-muted final items previous (chunks + 1) (pieces + 0) (passed + 0) span.stop t stream.4
+flow_from-muted final (Closed t ∷ items) previous chunks pieces passed position since stream =
+    flow_from-last (counted (mute_gives final)) (open_state previous chunks pieces passed) (Closed t) items stream.2
+flow_from-muted final (Reset t ∷ items) previous chunks pieces passed position since stream =
+    flow_from-last (counted (mute_gives final)) (open_state previous chunks pieces passed) (Reset t) items stream.2
+flow_from-muted final (Quiet ∷ items) previous chunks pieces passed position since stream =
+    flow_from-last (counted (mute_gives final)) (open_state previous chunks pieces passed) Quiet items stream
 
 arrived-final : (ending : Ending) → arrived (final_of ending ∷ []) ≡ 0
 arrived-final StillOpen = refl
@@ -51,7 +56,8 @@ muted-passes ending state (Reset t) = omega (arith, arrived-final ending)
 muted-passes ending state Quiet = omega (arith, arrived-final ending)
 
 -- a mute lets no byte through
-pub table-muted : (final : Item) (items : List Item) (previous chunks pieces passed position since : ℕ) → table (final ∷ []) ≡ [] → IsStreamFrom position since items → table (flow_from (counted (mute_gives final)) (open_state previous chunks pieces passed) items) ≡ []
+pub table-muted : (final : Item) (items : List Item) (previous chunks pieces passed position since : ℕ) → table (final ∷ []) ≡ []
+    → IsStreamFrom position since items → table (flow_from (counted (mute_gives final)) (open_state previous chunks pieces passed) items) ≡ []
 table-muted final [] previous chunks pieces passed position since bare stream = refl
 table-muted final (Chunk span t ∷ items) previous chunks pieces passed position since bare stream =
     table-muted final items _ _ _ _ span.stop t bare stream.4
@@ -69,7 +75,8 @@ timeout_in_time : (timeout : ℕ) → EndsInTime (timeout_ending timeout)
 timeout_in_time zero = tt
 timeout_in_time (suc timeout) = omega arith
 
-timeout_reacts : (timeout from after place : ℕ) (draws : Draws) → op_reaction (op_of place (Timeout timeout from after)) draws ≡ toxic_reaction (Timeout timeout from after) (draws place)
+timeout_reacts : (timeout from after place : ℕ) (draws : Draws) → op_reaction (op_of place (Timeout timeout from after)) draws
+    ≡ toxic_reaction (Timeout timeout from after) (draws place)
 timeout_reacts timeout zero zero place draws = refl
 timeout_reacts timeout zero (suc after) place draws = refl
 timeout_reacts timeout (suc from) after place draws = refl
@@ -105,7 +112,8 @@ length-table (Closed t ∷ items) = length-table items
 length-table (Reset t ∷ items) = length-table items
 length-table (Quiet ∷ items) = length-table items
 
-behind_bytes : (timeout from after : ℕ) (items : List Item) → LeavesAtMost after (flow (counted (halt_gives (timeout_start (suc from)) after (timeout_ending timeout))) items)
+behind_bytes : (timeout from after : ℕ) (items : List Item) → LeavesAtMost after
+    (flow (counted (halt_gives (timeout_start (suc from)) after (timeout_ending timeout))) items)
 behind_bytes timeout from zero items = tt
 behind_bytes timeout from (suc after) items =
     let few : 0 + arrived (flow (counted (halt_gives (timeout_start (suc from)) (suc after) (timeout_ending timeout))) items) ≤ suc after =
@@ -135,7 +143,8 @@ timeout_facts timeout from after = record {
   short = λ inside. grind (arith, common_steps);
 }
 
-mute_final : (last : Ending) (state : State) (end : Ending) → mute_gives (final_of last) state (final_of end) ≡ final_of (ending (mute_gives (final_of last) state (final_of end))) ∷ []
+mute_final : (last : Ending) (state : State) (end : Ending) → mute_gives (final_of last) state (final_of end)
+    ≡ final_of (ending (mute_gives (final_of last) state (final_of end))) ∷ []
 mute_final last state StillOpen = ap (λ end. final_of end ∷ []) (sym (ending-final_of last))
 mute_final last state (ClosedAt t) = ap (λ end. final_of end ∷ []) (sym (ending-final_of last))
 mute_final last state (ResetAt t) = ap (λ end. final_of end ∷ []) (sym (ending-final_of last))

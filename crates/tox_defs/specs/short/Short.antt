@@ -1,5 +1,6 @@
 -- Short forms: the toxic and the toxicity that a text names, or its first fault.
-use Rattle.std.specs.Prelude.{ℕ, ◌&&◌, ◌||◌, Bool, not, List, [], map, codes, Option, Some, None, is_some, unwrap_or, Result, Ok, Err, nat_lt, position, if◌then◌else◌}
+use Rattle.std.specs.Prelude.{ℕ, ◌&&◌, ◌||◌, Bool, not, List, [], map, codes, Option, Some, None, is_some, unwrap_or, Result, Ok, Err, nat_lt, position}
+use Rattle.std.specs.Prelude.{if◌then◌else◌}
 use Rattle.std.specs.List.{after_first, before_first, list_all, list_any}
 use Rattle.std.specs.Str.{bytes_eq}
 use Rattle.tox_time.specs.Text.{is_colon}

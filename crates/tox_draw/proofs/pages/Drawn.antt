@@ -1,5 +1,6 @@
 -- The conversations of links, one behind the other.
-use Rattle.std.proofs.Common.{◌≡◌, ℕ, ◌+◌, ◌<◌, ◌≤◌, List, [], ◌∷◌, ◌++◌, length, take, drop, min, None, refl, ap, sym, ◌∙◌, subst, append_assoc, append-nil, arith}
+use Rattle.std.proofs.Common.{◌≡◌, ℕ, ◌+◌, ◌<◌, ◌≤◌, List, [], ◌∷◌, ◌++◌, length, take, drop, min, None, refl, ap, sym, ◌∙◌, subst, append_assoc, append-nil}
+use Rattle.std.proofs.Common.{arith}
 use Rattle.std.proofs.lemmas.List.{length-take-le, take_min, take_more, take-append-drop}
 use Rattle.std.proofs.lemmas.Option.{none-some}
 use Rattle.tox_text.proofs.Listed.{IsAt}
@@ -28,7 +29,8 @@ AreSections-append known number m (x ∷ xs) ys a b is before after =
     (before.0, before.1 ++ b, before.2, others, ap (λ text. text ++ b) before.4 ∙ append_assoc before.0 before.1 b)
 
 -- one conversation
-AreSections-one : (known : List ℕ → KnownLog) (number : ℕ) (link : LinkLogs) (text : List ℕ) → IsSection known number link text → AreSections known number (link ∷ []) text
+AreSections-one : (known : List ℕ → KnownLog) (number : ℕ) (link : LinkLogs) (text : List ℕ) → IsSection known number link text
+    → AreSections known number (link ∷ []) text
 AreSections-one known number link text stands = (text, [], stands, refl, sym (append-nil text))
 
 -- any link has a conversation, if no pictures
@@ -39,7 +41,15 @@ IsSection-any known number (One row) = (
 )
 IsSection-any known number (Both up down) = (
   both_section (link_words (Both up down)) number up.facts down.facts None None,
-  record { time = axis_of 0; upstream = None; downstream = None; above = λ shown some. absurd (none-some shown some); below = λ shown some. absurd (none-some shown some); is = refl },
+  record {
+    time = axis_of 0;
+    upstream = None;
+    downstream = None;
+    above = λ shown some. absurd (none-some shown some);
+    below = λ shown some.
+        absurd (none-some shown some);
+    is = refl;
+  },
 )
 
 pub AreSections-any : (known : List ℕ → KnownLog) (number : ℕ) (links : List LinkLogs) → (text : List ℕ) × AreSections known number links text
@@ -50,19 +60,22 @@ AreSections-any known number (link ∷ links) =
     (first.0 ++ others.0, (first.0, others.0, first.1, others.1, refl))
 
 -- links have a list and conversations
-pub IsPageBody-any : (known : List ℕ → KnownLog) (refusals : List Refusal) (links : List LinkLogs) (shown : ℕ) → (text : List ℕ) × IsPageBody known refusals links shown text
+pub IsPageBody-any : (known : List ℕ → KnownLog) (refusals : List Refusal) (links : List LinkLogs) (shown : ℕ)
+    → (text : List ℕ) × IsPageBody known refusals links shown text
 IsPageBody-any known refusals links shown =
     let sections = AreSections-any known 1 (take shown links) in
     (page_list refusals links shown ++ (sections.0 ++ page_end), record { sections = sections.0; drawn = sections.1; whole = refl })
 
 -- logs have a page
-pub IsPage-any : (known : List ℕ → KnownLog) (title : List ℕ) (refusals : List Refusal) (rows : List Row) (shown : ℕ) → (text : List ℕ) × IsPage known title refusals rows shown text
+pub IsPage-any : (known : List ℕ → KnownLog) (title : List ℕ) (refusals : List Refusal) (rows : List Row) (shown : ℕ)
+    → (text : List ℕ) × IsPage known title refusals rows shown text
 IsPage-any known title refusals rows shown =
     let body = IsPageBody-any known refusals (page_links rows) shown in
     (page_front title (length refusals) rows (link_count rows) ++ body.0, record { body = body.0; below = body.1; whole = refl })
 
 -- the page of the logs that a report keeps
-pub IsPage-kept : (known : List ℕ → KnownLog) (title : List ℕ) (kept : List Refusal) (judged : List Row) (refusals : List Refusal) (rows : List Row) (shown : ℕ) (text : List ℕ)
+pub IsPage-kept : (known : List ℕ → KnownLog) (title : List ℕ) (kept : List Refusal) (judged : List Row) (refusals : List Refusal) (rows : List Row) (shown : ℕ)
+    (text : List ℕ)
     → kept ≡ refusals → judged ≡ rows → IsPage known title kept judged shown text → IsPage known title refusals rows shown text
 IsPage-kept known title kept judged refusals rows shown text refused same page =
     subst (λ others. IsPage known title others rows shown text) refused (subst (λ logs. IsPage known title kept logs shown text) same page)
@@ -84,8 +97,12 @@ pub AreSections-rest : (known : List ℕ → KnownLog) (links : List LinkLogs) (
 AreSections-rest known links i link a b here before stands =
     let front = take (i + 1) links in
     let rest = AreSections-any known (1 + length front) (drop (i + 1) links) in
-    let all = AreSections-append known 1 (1 + length front) front (drop (i + 1) links) (a ++ b) rest.0 refl (AreSections-more known links i link a b here before stands) rest.1 in
-    (rest.0, subst (λ text. AreSections known 1 links text) (append_assoc a b rest.0) (subst (λ some. AreSections known 1 some ((a ++ b) ++ rest.0)) (take-append-drop (i + 1) links) all))
+    let all = AreSections-append known 1 (1 + length front) front (drop (i + 1) links) (a ++ b) rest.0 refl
+    (AreSections-more known links i link a b here before stands) rest.1 in (
+      rest.0,
+      subst (λ text. AreSections known 1 links text) (append_assoc a b rest.0)
+          (subst (λ some. AreSections known 1 some ((a ++ b) ++ rest.0)) (take-append-drop (i + 1) links) all),
+    )
 
 -- there are no more links than there are
 pub AreSections-min : (known : List ℕ → KnownLog) (links : List LinkLogs) (shown count : ℕ) (text : List ℕ) → count ≡ min (length links) shown

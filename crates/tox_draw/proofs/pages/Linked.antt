@@ -29,7 +29,8 @@ either false true = refl
 either false false = refl
 
 -- a link more is there
-pub is_member-more : (links : List Link) (link name : Link) (before after : Bool) → before ≡ is_member same_link links name → after ≡ cond (same_link link name) true before
+pub is_member-more : (links : List Link) (link name : Link) (before after : Bool) → before ≡ is_member same_link links name
+    → after ≡ cond (same_link link name) true before
     → after ≡ is_member same_link (links ++ link ∷ []) name
 is_member-more links link name before after was is =
     is ∙ ap₂ (λ new b. cond new true b) (same_link_equiv.symm link name) was ∙ either (same_link name link) (is_member same_link links name)
@@ -49,11 +50,13 @@ module _ {K : Type 0} (eq : K → K → Bool) (link : K → Link) (key : Link �
   distinct_named : (keys : List K) → IsDistinct eq keys → IsDistinct same_link (map link keys)
   distinct_named [] distinct = IsDistinct-from_count same_link_equiv [] refl
   distinct_named (k ∷ keys) distinct =
-      IsDistinct-cons same_link (link k) (map link keys) (all_apart k keys (IsDistinct-head eq k keys distinct)) (distinct_named keys (IsDistinct-tail eq k keys distinct))
+      IsDistinct-cons same_link (link k) (map link keys) (all_apart k keys (IsDistinct-head eq k keys distinct))
+      (distinct_named keys (IsDistinct-tail eq k keys distinct))
 
   -- a set of keys holds just these links
   pub length-links : (keys : List K) (links : List Link) → IsDistinct eq keys → ((q : K) → list_any (eq q) keys ≡ is_member same_link links (link q))
       → length keys ≡ distinct_count same_link links
   length-links keys links distinct holds =
       sym (length-map keys link)
-      ∙ length-from_keys same_link_equiv (map link keys) links (distinct_named keys distinct) (λ l. any_named l (key l) (names l) keys ∙ holds (key l) ∙ ap (is_member same_link links) (names l))
+      ∙ length-from_keys same_link_equiv (map link keys) links (distinct_named keys distinct)
+      (λ l. any_named l (key l) (names l) keys ∙ holds (key l) ∙ ap (is_member same_link links) (names l))

@@ -1,5 +1,6 @@
 -- A link more in order, and a log more on its way to one.
-use Rattle.std.proofs.Common.{◌≡◌, Bool, true, false, cond, not, List, [], ◌∷◌, ◌++◌, filter, Option, Some, None, refl, ap, sym, subst, ◌∙◌, append_assoc, append-nil}
+use Rattle.std.proofs.Common.{◌≡◌, Bool, true, false, cond, not, List, [], ◌∷◌, ◌++◌, filter, Option, Some, None, refl, ap, sym, subst, ◌∙◌, append_assoc}
+use Rattle.std.proofs.Common.{append-nil}
 use Rattle.std.proofs.lemmas.List.Elements.{filter-append}
 use Rattle.tox_draw.specs.declared.pages.link_logs.LinkLogs.{LinkLogs}
 use Rattle.tox_draw.specs.declared.pages.link_logs.LinkLogs.TheVariants.{One}
@@ -29,15 +30,19 @@ AddsLink-unmarked old new link is same more links kept = record {
 }
 
 -- two neighbours that make a link, and two that don't
-link_logs-joined : (first second : Row) (rows : List Row) → makes_link first second ≡ true → link_logs_of (first ∷ (second ∷ rows)) ≡ joined first second ∷ link_logs_of rows
+link_logs-joined : (first second : Row) (rows : List Row) → makes_link first second ≡ true
+    → link_logs_of (first ∷ (second ∷ rows)) ≡ joined first second ∷ link_logs_of rows
 link_logs-joined first second rows is = ap (λ b. cond b (joined first second ∷ link_logs_of rows) (One first ∷ link_logs_of (second ∷ rows))) is
 
-link_logs-apart : (first second : Row) (rows : List Row) → makes_link first second ≡ false → link_logs_of (first ∷ (second ∷ rows)) ≡ One first ∷ link_logs_of (second ∷ rows)
+link_logs-apart : (first second : Row) (rows : List Row) → makes_link first second ≡ false
+    → link_logs_of (first ∷ (second ∷ rows)) ≡ One first ∷ link_logs_of (second ∷ rows)
 link_logs-apart first second rows is = ap (λ b. cond b (joined first second ∷ link_logs_of rows) (One first ∷ link_logs_of (second ∷ rows))) is
 
 -- a link that came, with what waits then
-comes : (old new : SortedLinks) (link : LinkLogs) (waiting : Option Row) (left rows others : List Row) (links : List LinkLogs) → AddsLink old link new → SortsLinks old links
-    → links ++ link_logs_of others ≡ link_logs_of rows → link_logs_of others ≡ link ∷ link_logs_of (behind_waiting waiting left) → LinksSoFar new waiting left rows
+comes : (old new : SortedLinks) (link : LinkLogs) (waiting : Option Row) (left rows others : List Row) (links : List LinkLogs) → AddsLink old link new
+    → SortsLinks old links
+    → links ++ link_logs_of others ≡ link_logs_of rows → link_logs_of others ≡ link ∷ link_logs_of (behind_waiting waiting left)
+    → LinksSoFar new waiting left rows
 comes old new link waiting left rows others links adds sorts whole next = record {
   links = links ++ link ∷ [];
   sorts = adds links sorts;
@@ -47,15 +52,18 @@ comes old new link waiting left rows others links adds sorts whole next = record
 pub takes-joined : (old new : SortedLinks) (first second : Row) (left rows : List Row) → makes_link first second ≡ true → AddsLink old (joined first second) new
     → LinksSoFar old (Some first) (second ∷ left) rows → LinksSoFar new None left rows
 takes-joined old new first second left rows is adds so_far =
-    comes old new (joined first second) None left rows (first ∷ (second ∷ left)) so_far.links adds so_far.sorts so_far.whole (link_logs-joined first second left is)
+    comes old new (joined first second) None left rows (first ∷ (second ∷ left)) so_far.links adds so_far.sorts so_far.whole
+    (link_logs-joined first second left is)
 
 pub takes-apart : (old new : SortedLinks) (first second : Row) (left rows : List Row) → makes_link first second ≡ false → AddsLink old (One first) new
     → LinksSoFar old (Some first) (second ∷ left) rows → LinksSoFar new (Some second) left rows
 takes-apart old new first second left rows is adds so_far =
-    comes old new (One first) (Some second) left rows (first ∷ (second ∷ left)) so_far.links adds so_far.sorts so_far.whole (link_logs-apart first second left is)
+    comes old new (One first) (Some second) left rows (first ∷ (second ∷ left)) so_far.links adds so_far.sorts so_far.whole
+    (link_logs-apart first second left is)
 
 -- the last log, which has waited
-pub takes-last : (old new : SortedLinks) (first : Row) (rows : List Row) → AddsLink old (One first) new → LinksSoFar old (Some first) [] rows → LinksSoFar new None [] rows
+pub takes-last : (old new : SortedLinks) (first : Row) (rows : List Row) → AddsLink old (One first) new → LinksSoFar old (Some first) [] rows
+    → LinksSoFar new None [] rows
 takes-last old new first rows adds so_far =
     comes old new (One first) None [] rows (first ∷ []) so_far.links adds so_far.sorts so_far.whole refl
 

@@ -32,7 +32,8 @@ near_end remaining failed = record { remaining = remaining; failed = failed }
 
 -- a link carried bytes of a reader that was read at most so many times, and ended so at a reading of the clock: its log reports that,
 -- what it wrote are the first bytes that there were to give, and it was hung up once
-pub record Carries (means : List Item → List Item) (reported : ℕ → Type 0) (reads : ℕ) (given left : NearEnd) (before after : FarEnd) (taken written : ℕ) (ending : Ending) (source : Option ReadEnd) (reading : ℕ) : Type 0 where
+pub record Carries (means : List Item → List Item) (reported : ℕ → Type 0) (reads : ℕ) (given left : NearEnd) (before after : FarEnd) (taken written : ℕ)
+    (ending : Ending) (source : Option ReadEnd) (reading : ℕ) : Type 0 where
   pub log : List LinkEvent
   pub noted : after.events ≡ with_events before.events log
   pub reports : ReportsAt means reported log taken written ending source reading

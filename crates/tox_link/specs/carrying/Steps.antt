@@ -22,14 +22,16 @@ pub record NotesAll (reported : ℕ → Type 0) (before after : Option (List Lin
   pub logs : LogsFrom reported old log new
 
 -- a step of a link broke off by this fault and noted nothing
-pub record StopsUnnoted (reported : ℕ → Type 0) (before after : Option (List LinkEvent)) (old new : WriterSide) (writer_failed : Bool) (fault : LinkFault) : Type 0 where
+pub record StopsUnnoted (reported : ℕ → Type 0) (before after : Option (List LinkEvent)) (old new : WriterSide) (writer_failed : Bool) (fault : LinkFault) :
+    Type 0 where
   pub at : IsFaultAt new.written writer_failed fault
   pub cuts : CutsOff reported old new.written
   pub reads : ReadsOn reported old.core.latest new.core.latest
   pub unnoted : after ≡ before
 
 -- a link broke off by this fault: its log is cut off there, and none of it is above the last reading
-pub record StopsAfter (reported : ℕ → Type 0) (before after : Option (List LinkEvent)) (old new : WriterSide) (writer_failed : Bool) (fault : LinkFault) : Type 0 where
+pub record StopsAfter (reported : ℕ → Type 0) (before after : Option (List LinkEvent)) (old new : WriterSide) (writer_failed : Bool) (fault : LinkFault) : Type
+    0 where
   pub at : IsFaultAt new.written writer_failed fault
   pub log : List LinkEvent
   pub noted : after ≡ with_events before log

@@ -61,7 +61,8 @@ pub record HasRoomOf (ops : List Op) (link : PolledLink) : Type 0 where
 
 -- these bytes came, these events were noted and these bytes are written: all that the plan means up to here, but for the slice
 -- that is being written
-pub record Follows (means : List Item → List Item) (reported : ℕ → Type 0) (link : PolledLink) (log : List LinkEvent) (came : List ℕ) (before written : Option (List ℕ)) : Type 0 where
+pub record Follows (means : List Item → List Item) (reported : ℕ → Type 0) (link : PolledLink) (log : List LinkEvent) (came : List ℕ)
+    (before written : Option (List ℕ)) : Type 0 where
   pub carried : Carried means reported link.core (log ++ unsaid link.unwritten)
   pub faithful : IsFaithful means reported log
   pub closed : has_source_end log ≡ is_some (read_end_of link.source)

@@ -1,5 +1,6 @@
 -- What a link core answers, and what an answer changes.
-use Rattle.std.specs.Prelude.{◌≡◌, ℕ, ◌+◌, ◌<◌, ◌≤◌, ◌||◌, Bool, true, false, List, [], ◌∷◌, ◌++◌, Option, Some, None, IsSome, Result, OnOk, OnErr, is_some, nat_le, if◌then◌else◌}
+use Rattle.std.specs.Prelude.{◌≡◌, ℕ, ◌+◌, ◌<◌, ◌≤◌, ◌||◌, Bool, true, false, List, [], ◌∷◌, ◌++◌, Option, Some, None, IsSome, Result, OnOk, OnErr, is_some}
+use Rattle.std.specs.Prelude.{nat_le, if◌then◌else◌}
 use Rattle.tox_time.specs.declared.streams.ending.Ending.{Ending}
 use Rattle.tox_time.specs.declared.streams.ending.Ending.TheVariants.{StillOpen, Closed as ClosedAt, Reset as ResetAt}
 use Rattle.tox_time.specs.declared.streams.item.Item.{Item}
@@ -12,7 +13,8 @@ use Rattle.tox_plan.specs.RunnerView.{answer_of}
 use Rattle.tox_plan.specs.Unended.{IsUnended}
 use Rattle.tox_link.specs.declared.link_core.act.Act.{Act}
 use Rattle.tox_link.specs.declared.link_core.act.Act.TheVariants.{Write, WaitUntil, WaitForInput, End}
-use Rattle.tox_link.specs.link_core.Core.{CoreView, TakesSlice, LeavesOutput, KeepsCore, GivesUp, remaining_output, next_instant, core_ending, core_deadline, core_position, kept_count}
+use Rattle.tox_link.specs.link_core.Core.{CoreView, TakesSlice, LeavesOutput, KeepsCore, GivesUp, remaining_output, next_instant, core_ending, core_deadline}
+use Rattle.tox_link.specs.link_core.Core.{core_position, kept_count}
 
 -- until the deadline, or without one for input
 abbrev pub wait_act : Option ℕ → Act
@@ -52,7 +54,8 @@ pub record Answered (old new : CoreView) (now : ℕ) (act : Act) : Type 0 where
   pub ended : next_instant (remaining_output old (Quiet ∷ [])) ≡ None → old.ended ≡ true → IsSome (core_ending new)
   pub dropped : next_instant (remaining_output old (Quiet ∷ [])) ≡ None → kept_count new ≡ 0
   pub overdue : (d : ℕ) → next_instant (remaining_output old (Quiet ∷ [])) ≡ None → core_deadline old ≡ Some d → d ≤ now → IsSome (core_ending new)
-  pub unended : next_instant (remaining_output old (Quiet ∷ [])) ≡ None → core_ending new ≡ None → IsUnended (ops_of new.runner.cursors) (remaining_output new) now
+  pub unended : next_instant (remaining_output old (Quiet ∷ [])) ≡ None → core_ending new ≡ None
+      → IsUnended (ops_of new.runner.cursors) (remaining_output new) now
   pub output : After old now act new
   pub over : (last : Ending) → act ≡ End last → (items : List Item) → remaining_output new items ≡ final_of last ∷ []
   pub kept : KeepsCore old new

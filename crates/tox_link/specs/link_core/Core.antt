@@ -95,7 +95,8 @@ pub record TakesSlice (old new : CoreView) (slice : Slice) : Type 0 where
 
 -- the remaining output is the same, whatever comes from an instant on
 pub record LeavesOutput (old new : CoreView) (now : ℕ) : Type 0 where
-  pub output : (position since : ℕ) (items : List Item) → now ≤ since → IsStreamFrom position since items → SameResult (remaining_output new items) (remaining_output old items)
+  pub output : (position since : ℕ) (items : List Item) → now ≤ since → IsStreamFrom position since items
+      → SameResult (remaining_output new items) (remaining_output old items)
   pub position : core_position new ≡ core_position old
 
 -- only the first kept pieces are given up, and of those no byte is still to be given

@@ -10,7 +10,8 @@ use Rattle.tox_link.specs.declared.link_core.act.Act.TheVariants.{Write, WaitUnt
 use Rattle.tox_link.specs.declared.notes.LinkEvent.{LinkEvent}
 use Rattle.tox_link.specs.declared.notes.LinkEvent.TheVariants.{SourceEnd, Wrote}
 use Rattle.tox_link.specs.link_core.Core.{CoreView, core_ending, core_position, kept_lens, kept_start, remaining_output}
-use Rattle.tox_link.specs.log.Log.{heard_from, heard_bytes, heard_lens, has_source_end, said, reading_of, HasSmallPieces, IsFaithful, IsGapless, IsShallowBehind}
+use Rattle.tox_link.specs.log.Log.{heard_from, heard_bytes, heard_lens, has_source_end, said, reading_of, HasSmallPieces, IsFaithful, IsGapless}
+use Rattle.tox_link.specs.log.Log.{IsShallowBehind}
 
 -- no reading is above this one
 abbrev pub IsBy : ℕ → List LinkEvent → Type 0
@@ -27,7 +28,8 @@ pub record KeepsLast (core : CoreView) (log : List LinkEvent) : Type 0 where
 -- what was said and what is to come are together what the plan means for what was heard and goes on from there;
 -- the log is faithful, and its numbers are the core's: no slice passes the bytes that arrived, at most 2^40 in pieces of at most 16,384
 pub record Carried (means : List Item → List Item) (reported : ℕ → Type 0) (core : CoreView) (log : List LinkEvent) : Type 0 where
-  pub tables : (rest : List Item) → IsStreamFrom core.bytes core.latest rest → table (means (heard_from 0 log rest)) ≡ slices_table (said log) ++ table (remaining_output core rest)
+  pub tables : (rest : List Item) → IsStreamFrom core.bytes core.latest rest
+      → table (means (heard_from 0 log rest)) ≡ slices_table (said log) ++ table (remaining_output core rest)
   pub endings : (rest : List Item) → IsStreamFrom core.bytes core.latest rest → ending (means (heard_from 0 log rest)) ≡ ending (remaining_output core rest)
   pub stream : (rest : List Item) → IsStreamFrom core.bytes core.latest rest → IsStream (heard_from 0 log rest)
   pub faithful : IsFaithful means reported log
@@ -49,7 +51,8 @@ pub record ReadsOn (reported : ℕ → Type 0) (earlier latest : ℕ) : Type 0 w
 
 -- a step of the core with these events keeps the link carried
 abbrev pub KeepsCarried : (ℕ → Type 0) → CoreView → List LinkEvent → CoreView → Type 0
-KeepsCarried reported old more new = (means : List Item → List Item) (log : List LinkEvent) → Carried means reported old log → Carried means reported new (log ++ more)
+KeepsCarried reported old more new = (means : List Item → List Item) (log : List LinkEvent) → Carried means reported old log
+    → Carried means reported new (log ++ more)
 
 -- what is noted of an answer once it is done
 abbrev pub noted_of : Act → ℕ → List LinkEvent

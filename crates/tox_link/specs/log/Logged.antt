@@ -18,7 +18,8 @@ pub record Logged (means : List Item → List Item) (reported : ℕ → Type 0) 
 
 -- a step with these events keeps the log
 abbrev pub KeepsLogged : (ℕ → Type 0) → WriterSide → List LinkEvent → WriterSide → Type 0
-KeepsLogged reported old more new = (means : List Item → List Item) (log : List LinkEvent) → Logged means reported old log → Logged means reported new (log ++ more)
+KeepsLogged reported old more new = (means : List Item → List Item) (log : List LinkEvent) → Logged means reported old log
+    → Logged means reported new (log ++ more)
 
 -- the log of a link that broke off after so many bytes: they are no more than the plan means for what was heard
 pub record IsCutOff (means : List Item → List Item) (reported : ℕ → Type 0) (written : ℕ) (log : List LinkEvent) : Type 0 where

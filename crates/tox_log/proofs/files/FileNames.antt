@@ -1,5 +1,6 @@
 -- The name of a log's file has no byte but those that may stand in it, and says whether its proxy's name suits.
-use Rattle.std.proofs.Common.{◌≡◌, ℕ, ◌^◌, ◌<◌, ◌==◌, Bool, true, false, ◌&&◌, List, [], ◌∷◌, ◌++◌, codes, get_or, refl, ap, sym, ◌∙◌, arith, if◌then◌else◌, length}
+use Rattle.std.proofs.Common.{◌≡◌, ℕ, ◌^◌, ◌<◌, ◌==◌, Bool, true, false, ◌&&◌, List, [], ◌∷◌, ◌++◌, codes, get_or, refl, ap, sym, ◌∙◌, arith, if◌then◌else◌}
+use Rattle.std.proofs.Common.{length}
 use Rattle.std.specs.Prelude.{nat_le, not}
 use Rattle.std.specs.Char.{is_ascii_digit}
 use Rattle.std.specs.Fmt.{decimal}
@@ -51,7 +52,8 @@ names-log name place number stream first second =
     let ending : List ℕ = stream_name stream ++ codes ".log" in
     let numbered : List ℕ = decimal number ++ (codes "-" ++ ending) in
     let ends : names_file ending ≡ true = names-append (stream_name stream) (codes ".log") (names-stream stream) refl in
-    let counts : names_file numbered ≡ true = names-append (decimal number) (codes "-" ++ ending) (names-decimal number second) (names-append (codes "-") ending refl ends) in
+    let counts : names_file numbered ≡ true = names-append (decimal number) (codes "-" ++ ending) (names-decimal number second)
+    (names-append (codes "-") ending refl ends) in
     names-append (proxy_part name place) (codes "-" ++ numbered) (names-part name place first) (names-append (codes "-") numbered refl counts)
 
 -- no file of a proxy whose name suits is one of a proxy whose name doesn't

@@ -1,5 +1,6 @@
 -- No two streams have their logs in one file: its name tells the number, the stream, and the proxy's name or its place.
-use Rattle.std.proofs.Common.{◌≡◌, ℕ, ◌^◌, ◌<◌, ◌==◌, Bool, true, false, List, [], ◌∷◌, ◌++◌, codes, get_or, refl, ap, ap₂, sym, ◌∙◌, subst, append_assoc, inl, inr, if◌then◌else◌, arith}
+use Rattle.std.proofs.Common.{◌≡◌, ℕ, ◌^◌, ◌<◌, ◌==◌, Bool, true, false, List, [], ◌∷◌, ◌++◌, codes, get_or, refl, ap, ap₂, sym, ◌∙◌, subst, append_assoc, inl}
+use Rattle.std.proofs.Common.{inr, if◌then◌else◌, arith}
 use Rattle.std.specs.Prelude.{◌⊎◌, not}
 use Rattle.std.specs.Char.{is_ascii_digit}
 use Rattle.std.specs.Fmt.{decimal}
@@ -80,7 +81,8 @@ one-file a b place other number count one two place_fits other_fits number_fits 
     by_shape : (named other : Bool) → suits_file a ≡ named → suits_file b ≡ other
         → (if suits_file a then a else codes "@" ++ decimal place) ≡ (if suits_file b then b else codes "@" ++ decimal other) → (a ≡ b) ⊎ (place ≡ other)
     by_shape true true first second equal =
-        inl (sym (ap (λ test. if test then a else codes "@" ++ decimal place) first) ∙ equal ∙ ap (λ test. if test then b else codes "@" ++ decimal other) second)
+        inl (sym (ap (λ test. if test then a else codes "@" ++ decimal place) first) ∙ equal
+        ∙ ap (λ test. if test then b else codes "@" ++ decimal other) second)
     by_shape true false first second equal = absurd (names-apart a b place other number count one two first second same)
     by_shape false true first second equal = absurd (names-apart b a other place count number two one second first (sym same))
     by_shape false false first second equal =

@@ -1,5 +1,6 @@
 -- What is kept of a text that was printed behind the lines that wait.
-use Rattle.std.proofs.Common.{◌≡◌, ℕ, ◌==◌, ◌+◌, ◌-◌, ◌≤◌, Bool, true, List, ◌++◌, Some, Result, Ok, Err, length, take, drop, refl, ap, ap₂, ◌∙◌, subst, take-add, arith, inl, if◌then◌else◌}
+use Rattle.std.proofs.Common.{◌≡◌, ℕ, ◌==◌, ◌+◌, ◌-◌, ◌≤◌, Bool, true, List, ◌++◌, Some, Result, Ok, Err, length, take, drop, refl, ap, ap₂, ◌∙◌, subst}
+use Rattle.std.proofs.Common.{take-add, arith, inl, if◌then◌else◌}
 use Rattle.std.specs.Result.{is_ok}
 use Rattle.std.proofs.lemmas.List.{drop_at, length-append, length-take-le, take_all, take_at}
 use Rattle.tox_time.specs.declared.ends.EndFault.{EndFault}

@@ -1,5 +1,6 @@
 -- What an entry makes of the log so far.
-use Rattle.std.proofs.Common.{◌≡◌, ℕ, ◌==◌, ◌+◌, ◌-◌, Bool, true, false, List, ◌++◌, length, take, drop, refl, ap, sym, ◌∙◌, subst, append_assoc, arith, ⊎_elim, inl, inr, if◌then◌else◌}
+use Rattle.std.proofs.Common.{◌≡◌, ℕ, ◌==◌, ◌+◌, ◌-◌, Bool, true, false, List, ◌++◌, length, take, drop, refl, ap, sym, ◌∙◌, subst, append_assoc, arith, ⊎_elim}
+use Rattle.std.proofs.Common.{inl, inr, if◌then◌else◌}
 use Rattle.std.specs.Prelude.{◌≢◌, ◌⊎◌}
 use Rattle.std.proofs.lemmas.Bool.{eqb-true}
 use Rattle.std.proofs.lemmas.List.{length-append, length-take-le, take-append-drop, take_all}
@@ -44,7 +45,8 @@ log-keeps most logged text taken old new next state log keeps =
     by_test : (b : Bool) → (keeps.count == length text) ≡ b → state ≡ Goes → taken ++ new ≡ logged ++ text
     by_test true same goes =
         let all : take keeps.count text ≡ text = take_all keeps.count text (omega (arith, eqb-true keeps.count (length text) same)) in
-        ap (λ bytes. taken ++ bytes) (keeps.kept ∙ ap (λ bytes. old ++ bytes) all) ∙ sym (append_assoc taken old text) ∙ ap (λ bytes. bytes ++ text) (log.whole refl)
+        ap (λ bytes. taken ++ bytes) (keeps.kept ∙ ap (λ bytes. old ++ bytes) all) ∙ sym (append_assoc taken old text)
+        ∙ ap (λ bytes. bytes ++ text) (log.whole refl)
     by_test false apart goes =
         let done : state ≡ Done = keeps.goes ∙ ap (λ test. if test then next else Done) apart in
         let no : Done ≡ Goes = sym done ∙ goes in

@@ -1,5 +1,6 @@
 -- What stands in a script's tables, over the values that `toml` reads: texts, whole numbers, tables and keys.
-use Rattle.std.specs.Prelude.{ℕ, ◌&&◌, Bool, true, ℤ, pos, negsuc, List, [], ◌∷◌, nat_le, Option, Some, None, is_some, option_and_then, option_map, unwrap_or, Result, Ok, Err, ok_or, if◌then◌else◌}
+use Rattle.std.specs.Prelude.{ℕ, ◌&&◌, Bool, true, ℤ, pos, negsuc, List, [], ◌∷◌, nat_le, Option, Some, None, is_some, option_and_then, option_map, unwrap_or}
+use Rattle.std.specs.Prelude.{Result, Ok, Err, ok_or, if◌then◌else◌}
 use Rattle.std.specs.List.{list_all, list_any}
 use Rattle.std.specs.Str.{bytes_eq}
 use Rattle.toml.specs.Data.{Data, table, Items, no_items, item, Members, no_members, member, as_array, as_integer, as_str, as_table}

@@ -1,5 +1,6 @@
 -- The toxicity of a toxic, in thousandths.
-use Rattle.std.specs.Prelude.{ℕ, ◌+◌, ◌-◌, ◌*◌, ◌^◌, ◌==◌, Bool, false, List, length, nat_le, position, Option, Some, None, is_some, option_and_then, option_map, if◌then◌else◌}
+use Rattle.std.specs.Prelude.{ℕ, ◌+◌, ◌-◌, ◌*◌, ◌^◌, ◌==◌, Bool, false, List, length, nat_le, position, Option, Some, None, is_some, option_and_then}
+use Rattle.std.specs.Prelude.{option_map, if◌then◌else◌}
 use Rattle.std.specs.List.{after_first, before_first}
 use Rattle.toml.specs.Data.{Data, as_str}
 use Rattle.tox_script.specs.fields.Fields.{whole_between}

@@ -6,7 +6,8 @@ use Rattle.tox_link.specs.declared.link_fault.LinkFault.{LinkFault}
 use Rattle.tox_serve.specs.workers.Begun.{BeginsCourse, IsNewDirection}
 use Rattle.tox_serve.specs.workers.Driven.{IsAdvanceOf}
 use Rattle.tox_serve.specs.workers.Steps.{IsRunOf}
-use Rattle.tox_serve.specs.workers.Reports.{GoesOnWithEnds, HasSourceAfter, HasTargetAfter, IsNotedSo, drives_source, drives_target, reported_sink, reported_source}
+use Rattle.tox_serve.specs.workers.Reports.{GoesOnWithEnds, HasSourceAfter, HasTargetAfter, IsNotedSo, drives_source, drives_target, reported_sink}
+use Rattle.tox_serve.specs.workers.Reports.{reported_source}
 use Rattle.tox_serve.specs.declared.workers.flow.Flow.{Flow}
 use Rattle.tox_serve.specs.declared.workers.open_direction.DirectionState.{DirectionState}
 use Rattle.tox_serve.specs.declared.workers.open_direction.DirectionState.TheVariants.{Going}

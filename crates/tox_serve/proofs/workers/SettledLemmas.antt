@@ -42,7 +42,8 @@ module _ {R : Type 0} where
 
   -- an open link was taken out of its place, changed, and settled
   pub settled-open : (key : LinkKey) (link changed : Box (OpenLink R) Global) (old between new : Slab (Place R)) (P : Box (OpenLink R) Global → Type 0)
-      → Some (Open link) ≡ link_state_of key.generation (get old key.slot) → Updates old between key.slot (with_link_state key.generation None (get old key.slot))
+      → Some (Open link) ≡ link_state_of key.generation (get old key.slot)
+      → Updates old between key.slot (with_link_state key.generation None (get old key.slot))
       → IsSettled key changed between new → (IsSettled key changed old new → P link) → IfSome (open_at key old) P
   settled-open key link changed old between new P is takes settles holds =
       IfSome-open_of (link_state_of key.generation (get old key.slot)) link P (sym is) (holds (settled_after_take key changed old between new takes settles))

@@ -1,5 +1,6 @@
 -- The timers of a heap in order.
-use Rattle.std.proofs.Common.{◌≡◌, ◌≤◌, Bool, true, false, cond, nat_lt, All, List, [], ◌∷◌, filter, length, map, refl, sym, ap, slice_index_or, arith, Contains}
+use Rattle.std.proofs.Common.{◌≡◌, ◌≤◌, Bool, true, false, cond, nat_lt, All, List, [], ◌∷◌, filter, length, map, refl, sym, ap, slice_index_or, arith}
+use Rattle.std.proofs.Common.{Contains}
 use Rattle.std.specs.BinaryHeap.{IsUpperBound}
 use Rattle.std.specs.declared.cmp.Reverse.{Reverse}
 use Rattle.std.proofs.lemmas.List.Elements.{All-cons, All-nil, All-contains}
@@ -36,6 +37,7 @@ pub map-filter : (test : Timer → Bool) (timers : List (Reverse Timer))
 map-filter test [] = refl
 map-filter test (timer ∷ timers) =
     let rest = map-filter test timers in
-    elim (test timer.0) as (λ b. map (λ (reversed : Reverse Timer). reversed.0) (cond b (timer ∷ filter (λ reversed. test reversed.0) timers) (filter (λ reversed. test reversed.0) timers))
+    elim (test timer.0) as (λ b. map (λ (reversed : Reverse Timer). reversed.0)
+    (cond b (timer ∷ filter (λ reversed. test reversed.0) timers) (filter (λ reversed. test reversed.0) timers))
     ≡ cond b (timer.0 ∷ filter test (map (λ reversed. reversed.0) timers)) (filter test (map (λ reversed. reversed.0) timers)))
     [ true ↦ ap (λ kept. timer.0 ∷ kept) rest | false ↦ rest ]

@@ -27,9 +27,11 @@ side_text side = decimal side.bytes ++ codes " " ++ end_word side.ending
 -- a numbered link of the proxy of this name ended
 abbrev pub link_end_line : List ℕ → LinkEnd → List ℕ
 link_end_line name end =
-    codes "link " ++ visible_name name ++ codes " " ++ decimal end.number ++ codes " up " ++ side_text end.upstream ++ codes " down " ++ side_text end.downstream ++ codes "\n"
+    codes "link " ++ visible_name name ++ codes " " ++ decimal end.number ++ codes " up " ++ side_text end.upstream ++ codes " down "
+    ++ side_text end.downstream ++ codes "\n"
 
 -- the proxy of this name ended: how many links it had, and their bytes on both streams
 abbrev pub proxy_total_line : List ℕ → List Link → List ℕ
 proxy_total_line name links =
-    codes "total " ++ visible_name name ++ codes " " ++ decimal (length links) ++ codes " up " ++ decimal (total_of Upstream links) ++ codes " down " ++ decimal (total_of Downstream links) ++ codes "\n"
+    codes "total " ++ visible_name name ++ codes " " ++ decimal (length links) ++ codes " up " ++ decimal (total_of Upstream links) ++ codes " down "
+    ++ decimal (total_of Downstream links) ++ codes "\n"

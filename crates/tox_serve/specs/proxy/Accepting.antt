@@ -3,7 +3,8 @@ use Rattle.std.specs.Prelude.{Bool, false, ℤ, pos, [], ◌∷◌, Option, None
 use Rattle.std.specs.List.{list_any}
 use Rattle.std.specs.Ordering.{int_eq}
 use Rattle.std.specs.declared.io.ErrorKind.{ErrorKind}
-use Rattle.std.specs.declared.io.ErrorKind.TheVariants.{Interrupted, ConnectionAborted, ConnectionReset, HostUnreachable, NetworkUnreachable, NetworkDown, WouldBlock}
+use Rattle.std.specs.declared.io.ErrorKind.TheVariants.{Interrupted, ConnectionAborted, ConnectionReset, HostUnreachable, NetworkUnreachable, NetworkDown}
+use Rattle.std.specs.declared.io.ErrorKind.TheVariants.{WouldBlock}
 use Rattle.std.specs.declared.io.ErrorKind.TheVariants as kind
 use Rattle.tox_serve.specs.declared.proxy.accepting.Next.{Next}
 use Rattle.tox_serve.specs.declared.proxy.accepting.Next.TheVariants.{TryAgain, Rest, GiveUp}

@@ -20,14 +20,15 @@ abbrev pub reported_sink : {R : Type 0} → SocketEvent → ReadySink R → Read
 reported_sink event sink = if event.writable then record sink { writable = true } else sink
 
 -- a direction goes on at the same step machine, with these ends and notes
-pub record GoesOnWithEnds {R : Type 0} (old : Flow R) (source : ReadySource) (sink : ReadySink R) (notes : Option (List ℕ)) (state : DirectionState R) : Type 0 where
-  pub flow : Flow R
-  pub going : state ≡ Going flow
-  pub its : flow.stream ≡ old.stream
-  pub link : flow.link ≡ old.link
-  pub its_source : flow.source ≡ source
-  pub its_sink : flow.sink ≡ sink
-  pub its_notes : flow.notes ≡ notes
+pub record GoesOnWithEnds {R : Type 0} (old : Flow R) (source : ReadySource) (sink : ReadySink R) (notes : Option (List ℕ)) (state : DirectionState R) : Type 0
+  where
+    pub flow : Flow R
+    pub going : state ≡ Going flow
+    pub its : flow.stream ≡ old.stream
+    pub link : flow.link ≡ old.link
+    pub its_source : flow.source ≡ source
+    pub its_sink : flow.sink ≡ sink
+    pub its_notes : flow.notes ≡ notes
 
 -- a direction that goes on is noted so
 abbrev pub IsNotedSo : {R : Type 0} → Option (List ℕ) → DirectionState R → DirectionState R → Type 0

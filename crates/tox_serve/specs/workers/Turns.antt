@@ -36,7 +36,8 @@ pub record HasTimer {R : Type 0} (turn : Turn) (due : ℕ) (old new : OpenLink R
 
 -- a direction's next drive is scheduled by what the last one answered: one that waits until an instant has a timer then, one that
 -- may go on at once has a turn, and once it has ended the other one
-abbrev pub IsScheduled : {R : Type 0} → Turn → Result Progress LinkFault → (old new : OpenLink R) → (timers new_timers : List Timer) → (turns new_turns : List Turn) → Type 0
+abbrev pub IsScheduled : {R : Type 0} → Turn → Result Progress LinkFault → (old new : OpenLink R) → (timers new_timers : List Timer)
+    → (turns new_turns : List Turn) → Type 0
 IsScheduled turn (Ok (Waits None)) old new timers new_timers turns new_turns = GivesNone old new timers new_timers turns new_turns
 IsScheduled turn (Ok (Waits (Some until))) old new timers new_timers turns new_turns =
     HasTimer turn (worker_instant old.since.worker until) old new timers new_timers × (new_turns ≡ turns)

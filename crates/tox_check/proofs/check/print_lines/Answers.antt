@@ -17,7 +17,8 @@ returns-in_err-others g c =
     let setup = c.args.setup.now in
     let proxies = setup.proxies.items in
     let first = rw c.deref.ensures.value at c.in_ok-first.ensures in
-    PrintsLines-stops (proxies_lines proxies) (rules_lines proxies setup.script (runs_named proxies c.args.trees.now)) c.from_residual-in_err-others.ensures.1 first c.in_err-others.ensures
+    PrintsLines-stops (proxies_lines proxies) (rules_lines proxies setup.script (runs_named proxies c.args.trees.now)) c.from_residual-in_err-others.ensures.1
+    first c.in_err-others.ensures
 
 pub returns : goal.returns
 returns g c =

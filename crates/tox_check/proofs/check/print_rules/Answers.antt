@@ -43,7 +43,8 @@ returns-in_err-count g c =
     let below : k < length rules = omega (arith, c.loop-rule-test.true, c.requires.rules) in
     let front = c.in_err-count.ensures (get_or rules k no_rule) (slice_get-get_or rules k no_rule below) in
     let here = IsAt-numbered rules k below in (
-      Prints-as (joined_lines-flat_map lines (enumerate_from 1 rules)) (Prints-stopped (λ numbered. joined_lines (lines numbered)) here c.from_residual.ensures.1 c.loop-rule.invariant.passed front.0),
+      Prints-as (joined_lines-flat_map lines (enumerate_from 1 rules)) (Prints-stopped (λ numbered. joined_lines (lines numbered)) here
+          c.from_residual.ensures.1 c.loop-rule.invariant.passed front.0),
       IfOk-failed _ _ c.from_residual.result c.from_residual.ensures.1,
     )
 

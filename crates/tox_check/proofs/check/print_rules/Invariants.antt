@@ -11,7 +11,9 @@ use Rattle.tox_check.proofs.check.print_rules.Given as goal
 abbrev pub invariant-loop-rule : goal.invariant-loop-rule
 invariant-loop-rule g l = record {
   passed : Prints g.W.Sink (Ok tt) l.fn.printer l.printer
-      (flat_map (λ numbered. joined_lines (rule_lines l.setup.proxies.items (runs_named l.setup.proxies.items l.trees) numbered.0 numbered.1)) (take l.rule (enumerate_from 1 l.setup.script.rules)));
+      (flat_map (λ numbered. joined_lines (rule_lines l.setup.proxies.items (runs_named l.setup.proxies.items l.trees) numbered.0 numbered.1))
+      (take l.rule (enumerate_from 1 l.setup.script.rules)));
   counted : l.warned
-      ≡ held (length (flat_map (λ numbered. rule_lines l.setup.proxies.items (runs_named l.setup.proxies.items l.trees) numbered.0 numbered.1) (take l.rule (enumerate_from 1 l.setup.script.rules))));
+      ≡ held (length (flat_map (λ numbered. rule_lines l.setup.proxies.items (runs_named l.setup.proxies.items l.trees) numbered.0 numbered.1)
+      (take l.rule (enumerate_from 1 l.setup.script.rules))));
 }

@@ -13,7 +13,8 @@ returns-in_err-first g t c =
     let proxies = c.args.proxies.now in
     let proxy = c.proxy-item.result in
     let result = c.from_residual.result in
-    let whole = ap (λ (p : Proxy). proxy_lines p ++ proxies_lines (drop 1 proxies)) c.proxy-item.is ∙ proxies_lines-first proxies proxy c.in-len1-up.len_at_least in
+    let whole = ap (λ (p : Proxy). proxy_lines p ++ proxies_lines (drop 1 proxies)) c.proxy-item.is
+    ∙ proxies_lines-first proxies proxy c.in-len1-up.len_at_least in
     let P : List (List ℕ) → Type 0 =
     PrintsLines g.W.Sink result c.args.printer.now c.print_proxy.new.printer in
     subst P whole (PrintsLines-front (proxy_lines proxy) (proxies_lines (drop 1 proxies)) c.from_residual.ensures.1 c.in_err-first.ensures)
@@ -23,7 +24,8 @@ returns-in_err-others g t c =
     let proxies = c.args.proxies.now in
     let proxy = c.proxy-item.result in
     let result = c.from_residual-in_err-others.result in
-    let whole = ap (λ (p : Proxy). proxy_lines p ++ proxies_lines (drop 1 proxies)) c.proxy-item.is ∙ proxies_lines-first proxies proxy c.in-len1-up.len_at_least in
+    let whole = ap (λ (p : Proxy). proxy_lines p ++ proxies_lines (drop 1 proxies)) c.proxy-item.is
+    ∙ proxies_lines-first proxies proxy c.in-len1-up.len_at_least in
     let P : List (List ℕ) → Type 0 =
     PrintsLines g.W.Sink result c.args.printer.now c.print_proxies.new.printer in
     let others = rw take_rest at c.in_err-others.ensures in
@@ -33,7 +35,8 @@ pub returns : goal.returns
 returns g t c =
     let proxies = c.args.proxies.now in
     let proxy = c.proxy-item.result in
-    let whole = ap (λ (p : Proxy). proxy_lines p ++ proxies_lines (drop 1 proxies)) c.proxy-item.is ∙ proxies_lines-first proxies proxy c.in-len1-up.len_at_least in
+    let whole = ap (λ (p : Proxy). proxy_lines p ++ proxies_lines (drop 1 proxies)) c.proxy-item.is
+    ∙ proxies_lines-first proxies proxy c.in-len1-up.len_at_least in
     let P : List (List ℕ) → Type 0 =
     PrintsLines g.W.Sink (Ok c.saturating_add.result) c.args.printer.now c.print_proxies.new.printer in
     let others = rw take_rest at c.in_ok-others.ensures in

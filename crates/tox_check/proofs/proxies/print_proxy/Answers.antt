@@ -22,7 +22,8 @@ returns-in_err-upstream g c =
     let listen = c.deref-2.ensures ∙ ap (λ (p : Proxy). p.listen) c.proxy.view_is in
     let first = rw (name, listen) at c.in_ok-listen.ensures in
     rw enabled
-    (PrintsLines-stops (address_lines proxy.name (codes " listen") proxy.listen) (upstream_lines proxy) c.from_residual-in_err-upstream.ensures.1 first c.in_err-upstream.ensures)
+    (PrintsLines-stops (address_lines proxy.name (codes " listen") proxy.listen) (upstream_lines proxy) c.from_residual-in_err-upstream.ensures.1 first
+    c.in_err-upstream.ensures)
 
 pub returns : goal.returns
 returns g c =

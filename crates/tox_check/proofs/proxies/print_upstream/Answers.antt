@@ -11,7 +11,8 @@ returns-in_err-scheme g c =
     let name = c.deref.ensures ∙ ap (λ (p : Proxy). p.name) c.proxy.view_is in
     let upstream = c.deref-2.ensures ∙ ap (λ (p : Proxy). p.upstream) c.proxy.view_is in
     let first = rw (name, upstream) at c.in_err-scheme.ensures in
-    PrintsLines-front (address_lines proxy.name (codes " upstream") proxy.upstream) (line_if (is_own_address proxy.listen proxy.upstream) (own_address_line proxy.name proxy.upstream)) c.from_residual.ensures.1 first
+    PrintsLines-front (address_lines proxy.name (codes " upstream") proxy.upstream)
+    (line_if (is_own_address proxy.listen proxy.upstream) (own_address_line proxy.name proxy.upstream)) c.from_residual.ensures.1 first
 
 pub returns-in_err-own : goal.returns-in_err-own
 returns-in_err-own g c =
@@ -23,7 +24,8 @@ returns-in_err-own g c =
     let upstream_again = c.deref-5.ensures ∙ ap (λ (p : Proxy). p.upstream) c.proxy.view_is in
     let first = rw (name, upstream) at c.in_ok-scheme.ensures in
     let second = rw (name_again, listen, upstream_again) at c.in_err-own.ensures in
-    PrintsLines-stops (address_lines proxy.name (codes " upstream") proxy.upstream) (line_if (is_own_address proxy.listen proxy.upstream) (own_address_line proxy.name proxy.upstream)) c.from_residual-in_err-own.ensures.1 first second
+    PrintsLines-stops (address_lines proxy.name (codes " upstream") proxy.upstream)
+    (line_if (is_own_address proxy.listen proxy.upstream) (own_address_line proxy.name proxy.upstream)) c.from_residual-in_err-own.ensures.1 first second
 
 pub returns : goal.returns
 returns g c =
@@ -35,4 +37,5 @@ returns g c =
     let upstream_again = c.deref-5.ensures ∙ ap (λ (p : Proxy). p.upstream) c.proxy.view_is in
     let first = rw (name, upstream) at c.in_ok-scheme.ensures in
     let second = rw (name_again, listen, upstream_again) at c.in_ok-own.ensures in
-    PrintsLines-then (address_lines proxy.name (codes " upstream") proxy.upstream) (line_if (is_own_address proxy.listen proxy.upstream) (own_address_line proxy.name proxy.upstream)) first second c.saturating_add.ensures
+    PrintsLines-then (address_lines proxy.name (codes " upstream") proxy.upstream)
+    (line_if (is_own_address proxy.listen proxy.upstream) (own_address_line proxy.name proxy.upstream)) first second c.saturating_add.ensures

@@ -27,7 +27,8 @@ known-requires-clause-tree c =
     let setup = c.args.setup.now in
     let tree = c.index-trees-place.result in
     let found = ap (λ ps. position (is_named c.in-Some.scope.proxy.now) ps) (sym c.deref.ensures.value) ∙ sym c.in-Some-place_of.ensures in
-    let stands = StandsAt-position setup.script c.in-Some.scope.proxy.now setup.proxies.items c.args.trees.now c.index.result.now tree c.in-Some-place_of.place c.requires.trees found in
+    let stands = StandsAt-position setup.script c.in-Some.scope.proxy.now setup.proxies.items c.args.trees.now c.index.result.now tree c.in-Some-place_of.place
+    c.requires.trees found in
     subst IsTreeOf (sym c.index-trees-place.is) stands.holds.whole
 
 pub known-requires-clause-few : goal.known-requires-clause-few
@@ -35,7 +36,8 @@ known-requires-clause-few c =
     let setup = c.args.setup.now in
     let tree = c.index-trees-place.result in
     let found = ap (λ ps. position (is_named c.in-Some.scope.proxy.now) ps) (sym c.deref.ensures.value) ∙ sym c.in-Some-place_of.ensures in
-    let stands = StandsAt-position setup.script c.in-Some.scope.proxy.now setup.proxies.items c.args.trees.now c.index.result.now tree c.in-Some-place_of.place c.requires.trees found in
+    let stands = StandsAt-position setup.script c.in-Some.scope.proxy.now setup.proxies.items c.args.trees.now c.index.result.now tree c.in-Some-place_of.place
+    c.requires.trees found in
     subst (λ t. length (runs_by t) < 2 ^ 64) (sym c.index-trees-place.is) (HoldsRuns-few _ _ _ stands.holds)
 
 pub returns-in-None : goal.returns-in-None

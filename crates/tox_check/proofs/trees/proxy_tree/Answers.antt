@@ -20,4 +20,5 @@ pub returns : goal.returns
 returns c =
     let is = subst (IsIndex c.args.name.now c.args.script.now) (sym c.steps.ensures.found) c.in_ok-index.ensures in
     let are = IsRuns-index c.args.name.now c.args.script.now c.steps.result.now is c.in_ok-runs.runs.items c.in_ok-runs.ensures in
-    HoldsRuns-some c.args.script.now c.args.name.now c.in_ok-tree.tree c.in_ok-runs.runs.items c.in_ok-tree.ensures.sums (c.in_ok-tree.ensures.whole ∙ c.deref.ensures.value) are
+    HoldsRuns-some c.args.script.now c.args.name.now c.in_ok-tree.tree c.in_ok-runs.runs.items c.in_ok-tree.ensures.sums
+    (c.in_ok-tree.ensures.whole ∙ c.deref.ensures.value) are

@@ -38,4 +38,7 @@ pub returns-clause-means : goal.returns-clause-means
 returns-clause-means c =
     let is = compiled _ _ _ c.loop-placed-test.false c.loop-placed.invariant
     ∙ ap (λ toxics. fold with_op [] (map op_of_placed toxics)) (c.deref-placed-items.ensures.0 ∙ c.applied.ensures.value) in
-    λ items stream. ap (λ plan. means plan c.args.words.now items) c.of_ops.ensures ∙ ap (λ ops. means (record { lanes = c.lanes.result; ops = ops }) c.args.words.now items) is ∙ ap (λ lanes. means (record { lanes = lanes; ops = normal_form c.args.chain.now c.args.words.now }) c.args.words.now items) c.lanes.ensures ∙ means-normal_form c.args.chain.now c.args.words.now items c.applied.ensures.chain stream
+    λ items stream. ap (λ plan. means plan c.args.words.now items) c.of_ops.ensures
+    ∙ ap (λ ops. means (record { lanes = c.lanes.result; ops = ops }) c.args.words.now items) is
+    ∙ ap (λ lanes. means (record { lanes = lanes; ops = normal_form c.args.chain.now c.args.words.now }) c.args.words.now items) c.lanes.ensures
+    ∙ means-normal_form c.args.chain.now c.args.words.now items c.applied.ensures.chain stream

@@ -27,4 +27,5 @@ returns-in_default-joined c =
 pub returns-in-Some-joined : goal.returns-in-Some-joined
 returns-in-Some-joined c =
     c.append-in-Some-joined.ensures
-    ∙ appended c.args.ops.now.items c.pop.new.self.items c.in-Some.last c.args.op.now c.pop.result (Some c.in-Some-joined.one) c.pop.ensures.items c.in-Some.is (sym c.joined.ensures ∙ c.in-Some-joined.is)
+    ∙ appended c.args.ops.now.items c.pop.new.self.items c.in-Some.last c.args.op.now c.pop.result (Some c.in-Some-joined.one) c.pop.ensures.items c.in-Some.is
+    (sym c.joined.ensures ∙ c.in-Some-joined.is)

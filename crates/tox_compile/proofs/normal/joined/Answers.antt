@@ -11,5 +11,6 @@ pub returns-in-Mute-default : goal.returns-in-Mute-default
 returns-in-Mute-default c =
     let first : c.default.result ≡ first_state = search rules in
     let after = is-after_mute c.args.second.now c.in-Mute-default.ending c.map_ending.result
-    (subst (λ state. op_giving c.args.second.now (λ _ _. 0) state (final_of c.in-Mute-default.ending) ≡ final_of c.map_ending.result ∷ []) first (c.map_ending.ensures (λ _ _. 0))) in
+    (subst (λ state. op_giving c.args.second.now (λ _ _. 0) state (final_of c.in-Mute-default.ending) ≡ final_of c.map_ending.result ∷ []) first
+    (c.map_ending.ensures (λ _ _. 0))) in
     rw c.in-Mute-default.is-0 (ap (λ end. Some (Mute end)) after)

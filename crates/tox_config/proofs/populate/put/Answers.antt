@@ -9,7 +9,8 @@ use Rattle.tox_config.proofs.populate.put.Goals as goal
 pub returns-in-Some : goal.returns-in-Some
 returns-in-Some c =
     let entries = c.args.entries.now.items in
-    let found = position-Some (λ entry. is_named c.args.entry.name.now (lent_view entry)) entries c.in-Some.index c.args.entry (sym (rw c.deref.ensures.value at c.in-Some.ensures)) in
+    let found = position-Some (λ entry. is_named c.args.entry.name.now (lent_view entry)) entries c.in-Some.index c.args.entry
+    (sym (rw c.deref.ensures.value at c.in-Some.ensures)) in
     put-found lent_view c.args.entry entries c.in-Some.index found.0 found.1 found.2
 
 pub returns-in_ok-push-in-None : goal.returns-in_ok-push-in-None

@@ -4,7 +4,8 @@ use Rattle.tox_draw.specs.Places.{place_among, place_of, rooms}
 use Rattle.tox_draw.proofs.place.place_of.Goals as goal
 
 wide_by : (upper lower : List ℕ) (end half least : ℕ) → nat_lt end (2 * half) ≡ false
-    → place_among (take (end - 2 * half + 1) upper) (rooms (take (end - 2 * half + 1) upper) (take (end + 1 - 2 * half) (drop (2 * half) lower))) half least ≡ place_of upper lower end half least
+    → place_among (take (end - 2 * half + 1) upper) (rooms (take (end - 2 * half + 1) upper) (take (end + 1 - 2 * half) (drop (2 * half) lower))) half least
+    ≡ place_of upper lower end half least
 wide_by upper lower end half least is = rw is refl
 
 not_below : (end half : ℕ) → 2 * half ≤ end → nat_lt end (2 * half) ≡ false

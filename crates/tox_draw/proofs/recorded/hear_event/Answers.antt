@@ -16,7 +16,8 @@ returns-in-Piece-clause-hears c =
     let len = c.in-Piece.len in
     let t = c.in-Piece.instant in
     let new : Hearing = record old { strands = c.take_piece.new.self; latest = t; end = Missing t } in
-    let heard : HearsEvent frame old before (Piece len t) new after = hears-piece frame old new before after len t c.take_piece.ensures.arrived c.take_piece.ensures.due c.take_piece.ensures.kept.0 refl refl refl in
+    let heard : HearsEvent frame old before (Piece len t) new after = hears-piece frame old new before after len t c.take_piece.ensures.arrived
+    c.take_piece.ensures.due c.take_piece.ensures.kept.0 refl refl refl in
     subst (λ event. HearsEvent frame old before event c.read_at.new.hearing after) (sym c.in-Piece.is)
     (subst (λ hearing. HearsEvent frame old before (Piece len t) hearing after) (sym c.read_at.ensures) heard)
 
@@ -29,7 +30,8 @@ returns-in-SourceEnd-clause-hears c =
     let t = c.in-SourceEnd.instant in
     let ended = c.take_end.ensures.ended in
     let new : Hearing = record old { strands = c.take_end.new.self; latest = t; end = Missing t } in
-    let heard : HearsEvent frame old before (SourceEnd t) new after = hears-source_end frame old new before after t (ap (λ strands. strands.arrived) ended) (ap (λ strands. strands.planned) ended) (c.take_end.ensures.due frame) (ap (λ strands. strands.source_end) ended) refl refl refl in
+    let heard : HearsEvent frame old before (SourceEnd t) new after = hears-source_end frame old new before after t (ap (λ strands. strands.arrived) ended)
+    (ap (λ strands. strands.planned) ended) (c.take_end.ensures.due frame) (ap (λ strands. strands.source_end) ended) refl refl refl in
     subst (λ event. HearsEvent frame old before event c.read_at-in-SourceEnd.new.hearing after) (sym c.in-SourceEnd.is)
     (subst (λ hearing. HearsEvent frame old before (SourceEnd t) hearing after) (sym c.read_at-in-SourceEnd.ensures) heard)
 
@@ -41,6 +43,7 @@ returns-in-Wrote-clause-hears c =
     let slice = c.in-Wrote.slice in
     let reading = c.in-Wrote.reading in
     let new : Hearing = record old { written = c.add.new.self; latest = reading; end = Missing reading } in
-    let heard : HearsEvent frame old runner (Wrote slice reading) new runner = hears-wrote frame old new runner slice reading c.saturating_sub-len.result refl c.saturating_sub-len.ensures c.add.ensures refl refl in
+    let heard : HearsEvent frame old runner (Wrote slice reading) new runner =
+    hears-wrote frame old new runner slice reading c.saturating_sub-len.result refl c.saturating_sub-len.ensures c.add.ensures refl refl in
     subst (λ event. HearsEvent frame old runner event c.read_at-in-Wrote.new.hearing runner) (sym c.in-Wrote.is)
     (subst (λ hearing. HearsEvent frame old runner (Wrote slice reading) hearing runner) (sym c.read_at-in-Wrote.ensures) heard)

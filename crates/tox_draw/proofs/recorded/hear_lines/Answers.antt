@@ -12,7 +12,8 @@ lines-init g c =
       works = c.requires.works;
       idle = c.requires.idle;
       same = (refl, refl);
-      hears = λ means begins. so-far-none c.args.frame.now means c.args.log.now given c.args.hearing.now c.args.runner.now (prepend-nil given) begins.0 begins.1;
+      hears = λ means begins. so-far-none c.args.frame.now means c.args.log.now given c.args.hearing.now c.args.runner.now (prepend-nil given) begins.0
+          begins.1;
     }
 
 pub lines-preserved : goal.lines-preserved
@@ -24,11 +25,13 @@ lines-preserved g c =
     let handed : Hands old new before after c.in-Some.line =
     subst (λ handed. MatchOption handed (new.over ≡ old.over) (Hands old new before after)) c.in-Some.is c.in_ok-line.ensures.hands in
     let goes : GoesOnWith old.heard c.in-Some.line new.heard =
-    subst (λ handed. MatchOption handed (new.heard ≡ old.heard) (λ line. GoesOnWith old.heard line new.heard)) c.in-Some.is c.in_ok-line.ensures.order in record {
+    subst (λ handed. MatchOption handed (new.heard ≡ old.heard) (λ line. GoesOnWith old.heard line new.heard)) c.in-Some.is c.in_ok-line.ensures.order in
+    record {
       works = c.in_ok-line.ensures.working;
       idle = c.hear_line.ensures.idle;
       same = (c.in_ok-line.ensures.same.0 ∙ c.lines.invariant.same.0, c.in_ok-line.ensures.same.1 ∙ c.lines.invariant.same.1);
-      hears = λ means begins. so-far-line c.args.frame.now means (to_hand c.args.log.now (g.R.Source.remaining c.args.reader.now)) before after old new c.lines.hearing c.hear_line.new.hearing c.lines.runner c.hear_line.new.runner c.in-Some.line
+      hears = λ means begins. so-far-line c.args.frame.now means (to_hand c.args.log.now (g.R.Source.remaining c.args.reader.now)) before after old new
+          c.lines.hearing c.hear_line.new.hearing c.lines.runner c.hear_line.new.runner c.in-Some.line
           handed goes c.hear_line.ensures.hears (c.lines.invariant.hears means begins);
     }
 

@@ -27,12 +27,27 @@ returns g c =
     let fresh = c.in_ok-new.ensures in
     let strands = fresh.drawn frame in
     let begun : Hearing = record { strands = c.in_ok-new.field-0; written = c.in_ok-new-2.field-0; end = Missing 0; latest = 0 } in
-    let begins = begins-hearing frame means log begun runner opens.going opens.start output new.start.0 new.start.2 new.start.3 new.start.4 strands.0 strands.1 (c.in_ok-new-2.ensures frame) fresh.ended.0 refl refl in
+    let begins = begins-hearing frame means log begun runner opens.going opens.start output new.start.0 new.start.2 new.start.3 new.start.4 strands.0 strands.1
+    (c.in_ok-new-2.ensures frame) fresh.ended.0 refl refl in
     let all = c.in_ok-hear_lines.ensures.hears means begins in
     let hearing = c.hear_lines.new.hearing in
     let after = c.hear_lines.new.runner in
-    let reported : LogText = record { heading = log.heading; chain = log.chain; events = all.events; source_reset = hearing.strands.source_reset; last = all.last } in
-    let kept : Record = record { forms = c.in_ok-forms.forms; strands = hearing.strands; due_end = c.ending_of.result; written = hearing.written; end = hearing.end } in record {
+    let reported : LogText = record {
+      heading = log.heading;
+      chain = log.chain;
+      events = all.events;
+      source_reset = hearing.strands.source_reset;
+      last =
+          all.last;
+    } in
+    let kept : Record = record {
+      forms = c.in_ok-forms.forms;
+      strands = hearing.strands;
+      due_end = c.ending_of.result;
+      written = hearing.written;
+      end =
+          hearing.end;
+    } in record {
       log = reported;
       says = says-log frame means (g.R.Source.remaining c.args.reader.now) (g.R.Source.remaining c.new.new.reader) log hearing after opens all;
       records = records-log frame means reported all.position hearing after c.ending_of.result kept all.heard refl c.ending_of.ensures refl refl refl refl refl;

@@ -9,6 +9,8 @@ loop-slice-preserved c =
     let gives = c.in-Some.ensures.some in record {
       piece = kept.piece ∙ c.loop-slice.invariant.piece;
       latest = kept.latest ∙ c.loop-slice.invariant.latest;
-      due = λ means behind few plan. plan-cut c.args.frame.now means behind c.loop-slice.planned c.add.new.self c.loop-slice.runner c.next_cut.new.self c.in-Some.slice c.saturating_sub.result
-          (rw c.loop-slice.invariant.piece few) gives.cut gives.begins gives.stands c.saturating_sub.ensures c.add.ensures (c.loop-slice.invariant.due means behind few plan);
+      due = λ means behind few plan. plan-cut c.args.frame.now means behind c.loop-slice.planned c.add.new.self c.loop-slice.runner c.next_cut.new.self
+          c.in-Some.slice c.saturating_sub.result
+          (rw c.loop-slice.invariant.piece few) gives.cut gives.begins gives.stands c.saturating_sub.ensures c.add.ensures
+          (c.loop-slice.invariant.due means behind few plan);
     }

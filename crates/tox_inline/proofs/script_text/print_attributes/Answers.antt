@@ -24,5 +24,6 @@ returns-in_err-print_attribute g c =
 pub returns : goal.returns
 returns g c =
     let keys = map (λ key. key.now) c.args.keys.now in
-    let past : length (zip keys c.args.values.now) ≤ c.loop-place.place = omega (arith, length-zip keys c.args.values.now, length-map c.args.keys.now (λ key. key.now), c.loop-place-test.false) in
+    let past : length (zip keys c.args.values.now) ≤ c.loop-place.place =
+    omega (arith, length-zip keys c.args.values.now, length-map c.args.keys.now (λ key. key.now), c.loop-place-test.false) in
     Prints-all attribute_line _ _ past c.loop-place.invariant

@@ -7,7 +7,8 @@ use Rattle.tox_inline.specs.declared.toxics.NumberedToxic.{NumberedToxic}
 use Rattle.tox_text.proofs.Printings.{Prints-as, Prints-failed, Prints-then}
 use Rattle.tox_inline.proofs.script_text.print_toxic.Goals as goal
 
-toxic_text-parts : (toxic : NumberedToxic) (keys : List (List ℕ)) (values : List ℕ) → keys ≡ attributes_of toxic.entry.toxic → values ≡ values_of toxic.entry.toxic
+toxic_text-parts : (toxic : NumberedToxic) (keys : List (List ℕ)) (values : List ℕ) → keys ≡ attributes_of toxic.entry.toxic
+    → values ≡ values_of toxic.entry.toxic
     → toxic_head toxic ++ flat_map attribute_line (zip keys values) ≡ toxic_text toxic
 toxic_text-parts toxic keys values are_keys are_values = rw (are_keys, are_values) refl
 

@@ -5,5 +5,6 @@ use Rattle.tox_inline.proofs.script_text.write_script.Goals as goal
 
 pub returns : goal.returns
 returns g c =
-    let written = rw c.new-printer.ensures.writer at (Writes-finished c.finish.result _ c.new-printer.ensures.empty c.in_ok-print_script.ensures c.finish.ensures) in
+    let written = rw c.new-printer.ensures.writer at (Writes-finished c.finish.result _ c.new-printer.ensures.empty c.in_ok-print_script.ensures
+    c.finish.ensures) in
     search (rules, written)

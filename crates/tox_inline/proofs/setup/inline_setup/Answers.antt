@@ -14,7 +14,8 @@ use Rattle.tox_inline.specs.declared.setup.Inline.{Inline}
 use Rattle.tox_inline.proofs.setup.inline_setup.Goals as goal
 
 -- a fault of the toxics is the command line's, once the addresses are those of a proxy
-cause-from_toxics : (inline : Inline) (fault : InlineFault) → IsPopulated inline → IsInlineFault (numbered_toxics inline.toxics.now) fault → HasInlineCause inline fault
+cause-from_toxics : (inline : Inline) (fault : InlineFault) → IsPopulated inline → IsInlineFault (numbered_toxics inline.toxics.now) fault
+    → HasInlineCause inline fault
 cause-from_toxics inline (Toxics fault) populated read = (populated, read)
 cause-from_toxics inline OutOfMemory populated read = tt
 cause-from_toxics inline (Config fault) populated read = absurd read
@@ -24,7 +25,8 @@ pub returns-in_err-proxies-clause-fault : goal.returns-in_err-proxies-clause-fau
 returns-in_err-proxies-clause-fault c =
     let exit = err_from_is_err_and c.from_residual-in_err-proxies.result c.from_residual-in_err-proxies.ensures.1 in
     rw (exit.1, exit.2)
-    (subst (λ (text : List ℕ). IsConfigFault (populate text) c.in_err-proxies.field-0.0) (c.bytes.ensures ∙ c.in_ok-populate.ensures.ok) c.in_err-proxies.ensures.err)
+    (subst (λ (text : List ℕ). IsConfigFault (populate text) c.in_err-proxies.field-0.0) (c.bytes.ensures ∙ c.in_ok-populate.ensures.ok)
+    c.in_err-proxies.ensures.err)
 
 pub returns-in_err-toxics-clause-fault : goal.returns-in_err-toxics-clause-fault
 returns-in_err-toxics-clause-fault c =

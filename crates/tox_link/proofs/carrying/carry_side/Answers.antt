@@ -38,11 +38,13 @@ returns-in-Ok-clause-carried g c = λ ops words meaning.
       log = logs.log;
       noted = logs.noted;
       reports = subst (ReportsAt plan reported logs.log c.stop.result side.written c.in-Ok.ending (read_end_of side.source)) (sym c.latest.ensures)
-          (link-reports plan reported side.core side.ended logs.log c.in-Ok.ending (read_end_of side.source) c.stop.result side.written logged.carried logged.closed over sound.written (c.stop.ensures.value ∙ sound.stop));
+          (link-reports plan reported side.core side.ended logs.log c.in-Ok.ending (read_end_of side.source) c.stop.result side.written logged.carried
+          logged.closed over sound.written (c.stop.ensures.value ∙ sound.stop));
       of_heard = says-heard plan reported side.core logs.log logged.carried;
       bytes = take side.core.bytes (came side);
       took = length-take-le side.core.bytes (came side) sound.few ∙ sym (c.stop.ensures.value ∙ sound.stop);
-      wrote = writes-first given (g.W.Sink.written c.args.ends.now.writer) (g.W.Sink.written c.drive-driven.new.writer) first.0 (came side) side.core.bytes side.written (omega (arith, sound.written, sound.within)) sound.few first.1 c.drive-driven.ensures.written;
+      wrote = writes-first given (g.W.Sink.written c.args.ends.now.writer) (g.W.Sink.written c.drive-driven.new.writer) first.0 (came side) side.core.bytes
+          side.written (omega (arith, sound.written, sound.within)) sound.few first.1 c.drive-driven.ensures.written;
       source_end = source-reported side messages later more.0 left.0 given after promise.reads joined.result.1 failed sound grown sent;
       messages = messages;
       first = first-of messages later more.0 left.0 given after promise.reads joined.result.1 failed grown sent;
@@ -69,7 +71,8 @@ returns-in-Err-clause-broken g c = λ ops words meaning.
     record {
       log = err.log;
       noted = err.noted;
-      cut_off = subst (λ written. IsCutOff plan reported written err.log) (sym err.at.count) (err.cuts plan (logged-fresh plan reported c.args.side.now c.requires.fresh meaning));
+      cut_off = subst (λ written. IsCutOff plan reported written err.log) (sym err.at.count)
+          (err.cuts plan (logged-fresh plan reported c.args.side.now c.requires.fresh meaning));
       bytes = came side;
       wrote = subst (WritesFirst given (g.W.Sink.written c.args.ends.now.writer) (g.W.Sink.written c.drive-driven.new.writer) (came side)) (sym err.at.count)
           (record { left = first.0; gave = first.1; few = c.drive-driven.ensures.few; wrote = c.drive-driven.ensures.written });

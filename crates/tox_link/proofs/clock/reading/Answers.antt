@@ -12,4 +12,5 @@ reported-max reported a b (inr before) says = elim (cases_lt a b) [
 ]
 
 pub returns-clause-reported : goal.returns-clause-reported
-returns-clause-reported g c = subst (g.C.Clock.reported c.args.clock.now) (sym c.later.ensures.value) (reported-max (g.C.Clock.reported c.args.clock.now) c.args.latest c.now.result c.requires c.now.ensures)
+returns-clause-reported g c = subst (g.C.Clock.reported c.args.clock.now) (sym c.later.ensures.value)
+    (reported-max (g.C.Clock.reported c.args.clock.now) c.args.latest c.now.result c.requires c.now.ensures)

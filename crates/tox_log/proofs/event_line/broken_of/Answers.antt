@@ -12,8 +12,10 @@ returns-in_err-name c = unread _ _ c.from_residual.ensures (no_broken c.args.wor
 
 pub returns-in_err-cause : goal.returns-in_err-cause
 returns-in_err-cause c = unread _ _ c.from_residual-in_err-cause.ensures (no_broken c.args.words.now
-    (λ cause bytes fits is. c.in_err-cause.ensures cause (cause-cut c.in_ok-name.name.now c.in_ok-name.bytes.now cause bytes c.in_ok-name.ensures.cut.0 (sym c.in_ok-name.ensures.cut.1 ∙ is)).0))
+    (λ cause bytes fits is. c.in_err-cause.ensures cause (cause-cut c.in_ok-name.name.now c.in_ok-name.bytes.now cause bytes c.in_ok-name.ensures.cut.0
+    (sym c.in_ok-name.ensures.cut.1 ∙ is)).0))
 
 pub returns-in_err-bytes : goal.returns-in_err-bytes
 returns-in_err-bytes c = unread _ _ c.from_residual-in_err-bytes.ensures (no_broken c.args.words.now
-    (λ cause bytes fits is. c.in_err-bytes.ensures bytes fits (cause-cut c.in_ok-name.name.now c.in_ok-name.bytes.now cause bytes c.in_ok-name.ensures.cut.0 (sym c.in_ok-name.ensures.cut.1 ∙ is)).1))
+    (λ cause bytes fits is. c.in_err-bytes.ensures bytes fits (cause-cut c.in_ok-name.name.now c.in_ok-name.bytes.now cause bytes c.in_ok-name.ensures.cut.0
+    (sym c.in_ok-name.ensures.cut.1 ∙ is)).1))

@@ -7,4 +7,5 @@ pub returns : goal.returns
 returns c = (ap (λ bytes. decimal c.args.reading.now ++ codes " piece " ++ bytes) c.in_ok-len.ensures.1, (c.requires, c.in_ok-len.ensures.0))
 
 pub returns-in_err-len : goal.returns-in_err-len
-returns-in_err-len c = reads-same _ _ _ (simp append_assoc) (unread _ _ c.from_residual.ensures (no_piece c.args.reading.now c.args.bytes.now c.requires c.in_err-len.ensures))
+returns-in_err-len c = reads-same _ _ _ (simp append_assoc) (unread _ _ c.from_residual.ensures
+    (no_piece c.args.reading.now c.args.bytes.now c.requires c.in_err-len.ensures))

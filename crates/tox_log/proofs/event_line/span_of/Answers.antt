@@ -17,7 +17,8 @@ returns-in_err-stop c = none-read _ _ _ c.from_residual-in_err-stop.ensures
 
 pub returns-in_err-start-2 : goal.returns-in_err-start-2
 returns-in_err-start-2 c = none-read _ _ _ c.from_residual-in_err-start-2.ensures
-    (λ span writable is. c.in_err-start-2.ensures span.start writable.0 (span-cut c.in_ok-start.start.now c.in_ok-start.rest.now span writable c.in_ok-start.ensures.cut.0 (sym c.in_ok-start.ensures.cut.1 ∙ is)).0)
+    (λ span writable is. c.in_err-start-2.ensures span.start writable.0
+    (span-cut c.in_ok-start.start.now c.in_ok-start.rest.now span writable c.in_ok-start.ensures.cut.0 (sym c.in_ok-start.ensures.cut.1 ∙ is)).0)
 
 pub returns-in_err-stop-2 : goal.returns-in_err-stop-2
 returns-in_err-stop-2 c = none-read _ _ _ c.from_residual-in_err-stop-2.ensures

@@ -6,16 +6,19 @@ use Rattle.tox_log.proofs.NoLines.{no_single, reads-same, unread}
 use Rattle.tox_log.proofs.event_line.words_of.Goals as goal
 
 pub returns-then-eq-3 : goal.returns-then-eq-3
-returns-then-eq-3 c = reads-same _ _ _ (words-parts (decimal c.args.reading.now) c.args.words.now _ _ (codes "wrote") c.in_ok-word.ensures.cut.1 (search rules)) c.wrote_of.ensures
+returns-then-eq-3 c = reads-same _ _ _ (words-parts (decimal c.args.reading.now) c.args.words.now _ _ (codes "wrote") c.in_ok-word.ensures.cut.1 (search rules))
+    c.wrote_of.ensures
 
 pub returns-then-eq-5 : goal.returns-then-eq-5
-returns-then-eq-5 c = reads-same _ _ _ (words-parts (decimal c.args.reading.now) c.args.words.now _ _ (codes "piece") c.in_ok-word.ensures.cut.1 (search rules)) c.piece_of.ensures
+returns-then-eq-5 c = reads-same _ _ _ (words-parts (decimal c.args.reading.now) c.args.words.now _ _ (codes "piece") c.in_ok-word.ensures.cut.1 (search rules))
+    c.piece_of.ensures
 
 pub returns-then-eq-2 : goal.returns-then-eq-2
 returns-then-eq-2 c = (open-parts (decimal c.args.reading.now) c.args.words.now (codes "open") (search rules), (c.requires, tt))
 
 pub returns-then-eq-4 : goal.returns-then-eq-4
-returns-then-eq-4 c = reads-same _ _ _ (words-parts (decimal c.args.reading.now) c.args.words.now _ _ (codes "end") c.in_ok-word.ensures.cut.1 (search rules)) c.end_of.ensures
+returns-then-eq-4 c = reads-same _ _ _ (words-parts (decimal c.args.reading.now) c.args.words.now _ _ (codes "end") c.in_ok-word.ensures.cut.1 (search rules))
+    c.end_of.ensures
 
 pub returns-in_err-word : goal.returns-in_err-word
 returns-in_err-word c = unread _ _ c.from_residual.ensures (no_single c.args.reading.now c.args.words.now c.requires c.in_err-word.ensures.cut

@@ -14,13 +14,16 @@ loop-place-init g c = Prints-none c.requires.working
 
 pub loop-place-preserved : goal.loop-place-preserved
 loop-place-preserved g c =
-    let here = IsAt-named string_bytes c.args.entries.now c.args.names.now c.loop-place.place (record { toxic = Latency 0 0 0 0; toxicity = 0 }) c.index-names-place.result c.requires.one_each c.loop-place-test.true c.index-names-place.is in
+    let here = IsAt-named string_bytes c.args.entries.now c.args.names.now c.loop-place.place (record { toxic = Latency 0 0 0 0; toxicity = 0 })
+    c.index-names-place.result c.requires.one_each c.loop-place-test.true c.index-names-place.is in
     Prints-more (λ named. toxic_line named.0 named.1) here c.loop-place.invariant (rw c.deref.ensures at c.in_ok-print_toxic.ensures)
 
 pub returns-in_err-print_toxic : goal.returns-in_err-print_toxic
 returns-in_err-print_toxic g c =
-    let here = IsAt-named string_bytes c.args.entries.now c.args.names.now c.loop-place.place (record { toxic = Latency 0 0 0 0; toxicity = 0 }) c.index-names-place.result c.requires.one_each c.loop-place-test.true c.index-names-place.is in
-    Prints-stopped (λ named. toxic_line named.0 named.1) here c.from_residual.ensures.1 c.loop-place.invariant (rw c.deref.ensures at c.in_err-print_toxic.ensures)
+    let here = IsAt-named string_bytes c.args.entries.now c.args.names.now c.loop-place.place (record { toxic = Latency 0 0 0 0; toxicity = 0 })
+    c.index-names-place.result c.requires.one_each c.loop-place-test.true c.index-names-place.is in
+    Prints-stopped (λ named. toxic_line named.0 named.1) here c.from_residual.ensures.1 c.loop-place.invariant
+    (rw c.deref.ensures at c.in_err-print_toxic.ensures)
 
 pub returns : goal.returns
 returns g c =

@@ -12,4 +12,5 @@ other-count count Sixteen fits no_sixteen no_other same = no_sixteen (decimal_in
 other-count count ThirtyTwo fits no_sixteen no_other same = no_other (decimal_injective count 32 (omega (arith, fits)) (omega arith) same)
 
 pub returns : goal.returns
-returns c = λ lanes same. other-count c.in_ok-count.count lanes c.in_ok-count.ensures.0 c.if-count-eq16.false c.if-count-eq32.false (sym c.in_ok-count.ensures.1 ∙ same)
+returns c = λ lanes same. other-count c.in_ok-count.count lanes c.in_ok-count.ensures.0 c.if-count-eq16.false c.if-count-eq32.false
+    (sym c.in_ok-count.ensures.1 ∙ same)

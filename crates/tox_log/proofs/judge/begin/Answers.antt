@@ -7,7 +7,8 @@ use Rattle.tox_log.proofs.Judging.{follows-start}
 use Rattle.tox_log.proofs.judge.begin.Goals as goal
 
 pub returns-clause-judged : goal.returns-clause-judged
-returns-clause-judged c = λ reported. follows-start (means c.args.plan c.args.words) reported c.in_ok-core.core c.in_ok-core.ensures.begins.none_kept c.in_ok-core.ensures.begins.meaning
+returns-clause-judged c = λ reported. follows-start (means c.args.plan c.args.words) reported c.in_ok-core.core c.in_ok-core.ensures.begins.none_kept
+    c.in_ok-core.ensures.begins.meaning
 
 pub returns-clause-held : goal.returns-clause-held
 returns-clause-held c =

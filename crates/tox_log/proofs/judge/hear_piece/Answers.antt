@@ -9,11 +9,13 @@ use Rattle.tox_log.proofs.judge.hear_piece.Goals as goal
 
 pub returns-in-Some-clause-hears : goal.returns-in-Some-clause-hears
 returns-in-Some-clause-hears c = λ means reported log says follows.
-    c.skip_piece.ensures.hears means reported log says (judged-stays c.args.judge.now c.make_room.new.judge c.make_room.ensures.counts.3 c.make_room.ensures.stays means reported log follows)
+    c.skip_piece.ensures.hears means reported log says (judged-stays c.args.judge.now c.make_room.new.judge c.make_room.ensures.counts.3
+    c.make_room.ensures.stays means reported log follows)
 
 pub returns-clause-hears : goal.returns-clause-hears
 returns-clause-hears c = λ means reported log says follows.
-    c.take_piece.ensures.hears means reported log says (judged-stays c.args.judge.now c.make_room.new.judge c.make_room.ensures.counts.3 c.make_room.ensures.stays means reported log follows)
+    c.take_piece.ensures.hears means reported log says (judged-stays c.args.judge.now c.make_room.new.judge c.make_room.ensures.counts.3
+    c.make_room.ensures.stays means reported log follows)
 
 -- a core without room keeps 1,024 pieces
 full : (room : Bool) (count : ℕ) → IsTrue room ↔ (count < 1_024) → room ≡ false → 1_024 ≤ count

@@ -18,7 +18,8 @@ parts-init c =
       from = omega (arith, fits);
       to = omega (arith, fits);
       due = fits.2;
-      follows = λ means reported log follows. begins-saying means reported judge.core judge.heard judge.ended slice.span.start log slice.instant (rest_table judge.rest) judge.latest c.args.reading.now judge.said c.requires.later (omega (arith, fits)) follows;
+      follows = λ means reported log follows. begins-saying means reported judge.core judge.heard judge.ended slice.span.start log slice.instant
+          (rest_table judge.rest) judge.latest c.args.reading.now judge.said c.requires.later (omega (arith, fits)) follows;
       expects = λ expects. subst (λ at. Expects judge (slice.span.stop - at) slice.instant) (search rules) expects;
     }
 
@@ -42,8 +43,10 @@ parts-preserved c =
           let count : ℕ = new.said - old.said in
           let more : new.said ≡ old.said + count = omega (arith, on) in
           let whole : new.said - slice.span.start ≡ (old.said - slice.span.start) + count = omega (arith, on, c.parts.invariant.from) in
-          goes-saying means reported new.core new.heard new.ended slice.span.start log slice.instant (rest_table new.rest) new.latest (old.said - slice.span.start) count (new.said - slice.span.start) whole
-          (c.say_part.ensures.says yes means reported (replicate (old.said - slice.span.start) slice.instant) slice.span.start log count more (c.parts.invariant.follows means reported log follows));
+          goes-saying means reported new.core new.heard new.ended slice.span.start log slice.instant (rest_table new.rest) new.latest
+          (old.said - slice.span.start) count (new.said - slice.span.start) whole
+          (c.say_part.ensures.says yes means reported (replicate (old.said - slice.span.start) slice.instant) slice.span.start log count more
+          (c.parts.invariant.follows means reported log follows));
       expects = λ expects. (c.say_part.ensures.expects (c.parts.invariant.expects expects) c.parts.invariant.due).1;
     }
 
@@ -52,7 +55,8 @@ returns-clause-hears c = λ _ means reported log says follows.
     let slice = c.args.slice.now in
     let fits = c.may_be_said.ensures.fits (search rules) in
     let all : c.parts.judge.said ≡ slice.span.stop = omega (arith, c.parts.invariant.to, c.parts-test.false) in
-    said-all means reported c.parts.judge slice c.args.reading.now log c.parts.invariant.latest all says fits.2 fits.1 (c.parts.invariant.follows means reported log follows)
+    said-all means reported c.parts.judge slice c.args.reading.now log c.parts.invariant.latest all says fits.2 fits.1
+    (c.parts.invariant.follows means reported log follows)
 
 pub returns-then-not-may_be_said-clause-refuses : goal.returns-then-not-may_be_said-clause-refuses
 returns-then-not-may_be_said-clause-refuses c = λ _ means reported log judged faithful.

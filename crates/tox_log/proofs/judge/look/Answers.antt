@@ -10,12 +10,14 @@ pub returns-then-is_none-clause-stays : goal.returns-then-is_none-clause-stays
 returns-then-is_none-clause-stays c = λ means reported front start log follows.
     let judge = c.args.judge.now in
     c.ask.ensures.stays means reported front start log
-    (follows-later means reported judge.core judge.heard judge.latest judge.ended start log (front ++ rest_table judge.rest) c.args.reading.now c.requires.later follows)
+    (follows-later means reported judge.core judge.heard judge.latest judge.ended start log (front ++ rest_table judge.rest) c.args.reading.now c.requires.later
+    follows)
 
 pub returns-else-is_none-clause-stays : goal.returns-else-is_none-clause-stays
 returns-else-is_none-clause-stays c = λ means reported front start log follows.
     let judge = c.args.judge.now in
-    follows-later means reported judge.core judge.heard judge.latest judge.ended start log (front ++ rest_table judge.rest) c.args.reading.now c.requires.later follows
+    follows-later means reported judge.core judge.heard judge.latest judge.ended start log (front ++ rest_table judge.rest) c.args.reading.now c.requires.later
+    follows
 
 pub returns-else-is_none-clause-all : goal.returns-else-is_none-clause-all
 returns-else-is_none-clause-all c = λ empty.

@@ -13,8 +13,11 @@ returns-clause-hears c = λ means reported log says follows.
     let len = c.args.len in
     let instant = c.args.instant.now in
     let bytes = sym (c.requires.held.live c.requires.live) in
-    piece-follows means reported judge.core judge.heard judge.latest judge.ended judge.said log c.on_piece.new.self (rest_table judge.rest) len instant c.requires.later c.requires.fits.0 says c.requires.fits.1 c.requires.going
+    piece-follows means reported judge.core judge.heard judge.latest judge.ended judge.said log c.on_piece.new.self (rest_table judge.rest) len instant
+    c.requires.later c.requires.fits.0 says c.requires.fits.1 c.requires.going
     (λ kept open_yet _. keeps-taken judge.core c.on_piece.new.self log len instant c.in-Ok.ensures.taken (kept open_yet c.requires.live))
-    (λ items. ap table (c.in-Ok.ensures.output items) ∙ ap (λ at. table (remaining_output judge.core (Chunk (record { start = at; stop = at + len }) instant ∷ items))) bytes)
-    (λ items. ap ending (c.in-Ok.ensures.output items) ∙ ap (λ at. ending (remaining_output judge.core (Chunk (record { start = at; stop = at + len }) instant ∷ items))) bytes)
+    (λ items. ap table (c.in-Ok.ensures.output items) ∙ ap (λ at. table
+    (remaining_output judge.core (Chunk (record { start = at; stop = at + len }) instant ∷ items))) bytes)
+    (λ items. ap ending (c.in-Ok.ensures.output items) ∙ ap (λ at. ending
+    (remaining_output judge.core (Chunk (record { start = at; stop = at + len }) instant ∷ items))) bytes)
     follows

@@ -7,4 +7,5 @@ use Rattle.tox_log.proofs.judged_json.print_ended.Goals as goal
 
 pub returns : goal.returns
 returns g c =
-    Prints-as (ended_fields-parts c.args.word.now c.args.instant c.text.result c.number.result (ap field_text c.text.ensures) (ap field_text c.number.ensures)) c.print_fields.ensures
+    Prints-as (ended_fields-parts c.args.word.now c.args.instant c.text.result c.number.result (ap field_text c.text.ensures) (ap field_text c.number.ensures))
+    c.print_fields.ensures

@@ -10,4 +10,5 @@ returns-in-Closed g c =
 
 pub returns-in-Reset : goal.returns-in-Reset
 returns-in-Reset g c =
-    Prints-as (ap (λ (instant : ℕ). ended_fields (codes "reset") instant) c.get-in-Reset.ensures.value ∙ ap ending_fields (sym c.in-Reset.is)) c.print_ended-in-Reset.ensures
+    Prints-as (ap (λ (instant : ℕ). ended_fields (codes "reset") instant) c.get-in-Reset.ensures.value ∙ ap ending_fields (sym c.in-Reset.is))
+    c.print_ended-in-Reset.ensures

@@ -4,7 +4,8 @@ use Rattle.tox_log.proofs.noted_lines.noted_lines_are_a_log.Goals as goal
 
 pub returns-clause-ended : goal.returns-clause-ended
 returns-clause-ended g c = λ means events taken written reading ending source report of_heard.
-    noted-ended (g.C.Clock.reported c.args._clock.now) (g.met.C.Clock.instants c.args._clock.now) means events taken written reading ending source report of_heard
+    noted-ended (g.C.Clock.reported c.args._clock.now) (g.met.C.Clock.instants c.args._clock.now) means events taken written reading ending source report
+    of_heard
 
 pub returns-clause-broken : goal.returns-clause-broken
 returns-clause-broken g c = λ means events written cause cut.

@@ -15,5 +15,9 @@ returns-in_default c = λ n within same. no-text c.args.greatest n c.args.text.n
 
 pub returns : goal.returns
 returns c = read-number c.args.greatest c.args.text.now c.parse_decimal.result (omega arith)
-    (λ zero_first. elim c.else-text-gt1.branch [ else-text-gt1-via-then-text-gt1+else-text-eq48 w ↦ absurd (w.if-text-eq48.false zero_first) | else-text-gt1-via-else-text-gt1 w ↦ omega arith ])
+    (λ zero_first. elim c.else-text-gt1.branch [
+      | else-text-gt1-via-then-text-gt1+else-text-eq48 w ↦
+          absurd (w.if-text-eq48.false zero_first)
+      | else-text-gt1-via-else-text-gt1 w ↦ omega arith
+    ])
     (c.parse_decimal.ensures ∙ ap (decimal_value 20 c.args.greatest) c.in-Ok.ensures.cases.0)

@@ -13,7 +13,19 @@ returns-clause-begins c = record {
   meaning = λ items stream. c.compile-plan.ensures.means items stream
       ∙ ap (λ chain. chain_flow chain c.in_ok-words.words items) c.chain.ensures
       ∙ ap (λ words. chain_flow c.args.log.now.chain words items) c.in_ok-words.ensures;
-  says = λ start. inl (refl, record { events = []; written = All-nil (λ event. IsWritable (Event event)); lines = refl; source_end = refl; judged = λ reported all. c.in_ok-begin.ensures.judged reported; count = refl; late = c.new.ensures });
+  says = λ start. inl (
+    refl,
+    record {
+      events = [];
+      written = All-nil (λ event. IsWritable (Event event));
+      lines = refl;
+      source_end = refl;
+      judged =
+          λ reported all. c.in_ok-begin.ensures.judged reported;
+      count = refl;
+      late = c.new.ensures;
+    },
+  );
   unfinished = refl;
 }
 

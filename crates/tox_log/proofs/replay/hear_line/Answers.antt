@@ -19,7 +19,8 @@ returns-in-Event-Piece-clause-hears c =
 pub returns-in-Event-SourceEnd-clause-hears : goal.returns-in-Event-SourceEnd-clause-hears
 returns-in-Event-SourceEnd-clause-hears c =
     let is : c.args.line.now ≡ Event (SourceEnd c.in-Event-SourceEnd.instant) = search rules in
-    subst (λ line. OnOk c.hear_source_end.result (HearsLine c.args.hearing.now line c.args.number c.hear_source_end.new.hearing)) (sym is) c.hear_source_end.ensures.hears
+    subst (λ line. OnOk c.hear_source_end.result (HearsLine c.args.hearing.now line c.args.number c.hear_source_end.new.hearing)) (sym is)
+    c.hear_source_end.ensures.hears
 
 pub returns-in-Event-Wrote-clause-hears : goal.returns-in-Event-Wrote-clause-hears
 returns-in-Event-Wrote-clause-hears c =
@@ -51,7 +52,8 @@ returns-in-Last-Broken-clause-hears c =
     let is : c.args.line.now ≡ Last (Broken c.in-Last-Broken.cause c.in-Last-Broken.field-0-1) = search rules in
     let broken : Hearing = record c.args.hearing.now { broken = Some c.in-Last-Broken.cause } in
     subst (λ line. HearsLine c.args.hearing.now line c.args.number broken) (sym is)
-    (λ start means text writable whole heard at. says-broken start means text c.args.hearing.now broken c.in-Last-Broken.cause c.in-Last-Broken.field-0-1 c.requires.going refl refl refl refl refl refl heard)
+    (λ start means text writable whole heard at. says-broken start means text c.args.hearing.now broken c.in-Last-Broken.cause c.in-Last-Broken.field-0-1
+    c.requires.going refl refl refl refl refl refl heard)
 
 pub returns-in-Event-Piece-clause-judges : goal.returns-in-Event-Piece-clause-judges
 returns-in-Event-Piece-clause-judges c =
@@ -82,17 +84,20 @@ returns-in-Last-Broken-clause-judges c = λ means events judged unfinished.
 pub returns-in-SourceReset-clause-hears : goal.returns-in-SourceReset-clause-hears
 returns-in-SourceReset-clause-hears c =
     let is : c.args.line.now ≡ SourceReset c.in-SourceReset.instant = search rules in
-    subst (λ line. OnOk c.hear_source_end-in-SourceReset.result (HearsLine c.args.hearing.now line c.args.number c.hear_source_end-in-SourceReset.new.hearing)) (sym is) c.hear_source_end-in-SourceReset.ensures.hears
+    subst (λ line. OnOk c.hear_source_end-in-SourceReset.result (HearsLine c.args.hearing.now line c.args.number c.hear_source_end-in-SourceReset.new.hearing))
+    (sym is) c.hear_source_end-in-SourceReset.ensures.hears
 
 pub returns-in-SourceReset-clause-follows : goal.returns-in-SourceReset-clause-follows
 returns-in-SourceReset-clause-follows c =
     let is : c.args.line.now ≡ SourceReset c.in-SourceReset.instant = search rules in
-    subst (λ line. OnOk c.hear_source_end-in-SourceReset.result (ComesWith c.args.hearing.now line c.hear_source_end-in-SourceReset.new.hearing)) (sym is) c.hear_source_end-in-SourceReset.ensures.follows
+    subst (λ line. OnOk c.hear_source_end-in-SourceReset.result (ComesWith c.args.hearing.now line c.hear_source_end-in-SourceReset.new.hearing)) (sym is)
+    c.hear_source_end-in-SourceReset.ensures.follows
 
 pub returns-in-SourceReset-clause-judges : goal.returns-in-SourceReset-clause-judges
 returns-in-SourceReset-clause-judges c =
     let is : c.args.line.now ≡ SourceReset c.in-SourceReset.instant = search rules in
-    subst (λ line. OnOk c.hear_source_end-in-SourceReset.result (JudgesWith c.args.hearing.now line c.hear_source_end-in-SourceReset.new.hearing)) (sym is) c.hear_source_end-in-SourceReset.ensures.judges
+    subst (λ line. OnOk c.hear_source_end-in-SourceReset.result (JudgesWith c.args.hearing.now line c.hear_source_end-in-SourceReset.new.hearing)) (sym is)
+    c.hear_source_end-in-SourceReset.ensures.judges
 
 pub returns-in-Last-Ended-clause-follows : goal.returns-in-Last-Ended-clause-follows
 returns-in-Last-Ended-clause-follows c =

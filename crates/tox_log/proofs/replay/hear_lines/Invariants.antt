@@ -23,12 +23,14 @@ invariant-lines g l = record {
   same : (l.log.heading ≡ l.fn.log.heading) × (l.log.chain ≡ l.fn.log.chain);
   text : (text : List ℕ)
       × (to_hand l.fn.log (g.R.Source.remaining l.fn.reader) ≡ prepend_known text (to_hand l.log (g.R.Source.remaining l.reader)))
-      × ((start : ℕ) (means : List Item → List Item) → IsLineNumber (next_number l.fn.log) start → SaysOf start means [] l.fn.log.over l.fn.hearing → SaysOf start means text l.log.over l.hearing)
+      × ((start : ℕ) (means : List Item → List Item) → IsLineNumber (next_number l.fn.log) start → SaysOf start means [] l.fn.log.over l.fn.hearing
+      → SaysOf start means text l.log.over l.hearing)
       × ((start : ℕ) → IsLineNumber (next_number l.fn.log) start → IsLineNumber (next_number l.log) (number_behind start text));
   follows : IsHeardTo l.fn.hearing.judge l.fn.log.heard → l.hearing.verdict ≡ Unfinished → IsHeardTo l.hearing.judge l.log.heard;
   left : (lines : List LogLine) → HasLinesLeft l.fn.log (g.R.Source.remaining l.fn.reader) lines
       → (rest : List LogLine) × HasLinesLeft l.log (g.R.Source.remaining l.reader) rest;
   shallow : (means : List Item → List Item) (events : List LinkEvent) (lines : List LogLine) → Judged means (λ reading. true) l.fn.hearing.judge events
       → HasLinesLeft l.fn.log (g.R.Source.remaining l.fn.reader) lines → IsShallowBehind events (events_in lines)
-      → (rest : List LogLine) × HasLinesLeft l.log (g.R.Source.remaining l.reader) rest × (l.hearing.verdict ≡ Unfinished → IsNowShallow means l.hearing.judge rest);
+      → (rest : List LogLine) × HasLinesLeft l.log (g.R.Source.remaining l.reader) rest
+      × (l.hearing.verdict ≡ Unfinished → IsNowShallow means l.hearing.judge rest);
 }

@@ -8,8 +8,17 @@ use Rattle.tox_log.proofs.Hearing.{keeps-none, piece-line, says-event, source-sa
 use Rattle.tox_log.proofs.replay.hear_piece.Goals as goal
 
 pub returns-clause-hears : goal.returns-clause-hears
-returns-clause-hears c = λ start means text writable whole heard at. says-event start means text c.args.hearing.now (record c.args.hearing.now { judge = c.hear_piece.new.judge }) (Piece c.args.len c.args.instant.now) (Event (Piece c.args.len c.args.instant.now)) (piece-line c.args.hearing.now.source_reset c.args.len c.args.instant.now) c.requires.going whole
-    (record { hears = search (rules, c.hear_piece.ensures.hears); reset = inl refl; ends = λ events is _. source-same events (Piece c.args.len c.args.instant.now) refl ∙ is; count = omega arith; late = keeps-none c.args.hearing.now.late }) writable heard
+returns-clause-hears c = λ start means text writable whole heard at. says-event start means text c.args.hearing.now
+    (record c.args.hearing.now { judge = c.hear_piece.new.judge }) (Piece c.args.len c.args.instant.now) (Event (Piece c.args.len c.args.instant.now))
+    (piece-line c.args.hearing.now.source_reset c.args.len c.args.instant.now) c.requires.going whole
+    (record {
+      hears = search (rules, c.hear_piece.ensures.hears);
+      reset = inl refl;
+      ends = λ events is _.
+          source-same events (Piece c.args.len c.args.instant.now) refl ∙ is;
+      count = omega arith;
+      late = keeps-none c.args.hearing.now.late;
+    }) writable heard
 
 pub returns-clause-judges : goal.returns-clause-judges
 returns-clause-judges c = λ means events judged _.

@@ -18,7 +18,14 @@ returns-clause-hears c = λ start means text writable whole heard at.
     let line : LogLine = logged_line c.args.is_reset (SourceEnd c.args.instant.now) in
     subst (λ last. SaysOf start means (text ++ (line_words line ++ 10 ∷ [])) last new) (sym (logged-goes c.args.is_reset (SourceEnd c.args.instant.now)))
     (says-event start means text old new (SourceEnd c.args.instant.now) line refl c.requires.going whole
-    (record { hears = c.hear_end.ensures.hears; reset = inr going; ends = λ events _ ended. source-ends events c.args.instant.now (ended ∙ going); count = omega arith; late = keeps-none old.late }) writable heard)
+    (record {
+      hears = c.hear_end.ensures.hears;
+      reset = inr going;
+      ends = λ events _ ended. source-ends events c.args.instant.now (ended ∙ going);
+      count =
+          omega arith;
+      late = keeps-none old.late;
+    }) writable heard)
 
 pub returns-clause-judges : goal.returns-clause-judges
 returns-clause-judges c = λ means events judged _. c.hear_end.ensures.hears means (λ reading. true) events refl judged

@@ -10,7 +10,8 @@ abbrev pub invariant-loop-slice : goal.invariant-loop-slice
 invariant-loop-slice l = record {
   goes : (items : List Item) → PreservesOutput l.initial.runner l.initial.slices items l.runner l.slices items;
   piece : (l.runner.piece ≡ l.initial.runner.piece) × (l.runner.latest ≡ l.initial.runner.latest);
-  neighbours : (items : List Item) → Any (LiesInChunk l.initial.runner.piece.span) items → LeadTo items l.initial.slices l.initial.runner.position → LeadTo items l.slices l.runner.position;
+  neighbours : (items : List Item) → Any (LiesInChunk l.initial.runner.piece.span) items → LeadTo items l.initial.slices l.initial.runner.position
+      → LeadTo items l.slices l.runner.position;
 }
 
 abbrev pub decreases-loop-slice : goal.decreases-loop-slice

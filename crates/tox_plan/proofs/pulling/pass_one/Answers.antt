@@ -10,5 +10,6 @@ pub returns-in-Some-Piece-clause-pulled : goal.returns-in-Some-Piece-clause-pull
 returns-in-Some-Piece-clause-pulled c =
     λ source old new pulled.
     let came : c.args.pulled.now ≡ Some (Piece c.in-Some-Piece.piece) = search rules in
-    passed-piece (draws_of c.args.drawing.now) c.args.start old new c.args.cursor.now c.advance.new.cursor source c.in-Some-Piece.piece c.advance.result c.requires.read.open_yet c.requires.read.read (c.requires.read.nested.heard c.requires.read.open_yet)
+    passed-piece (draws_of c.args.drawing.now) c.args.start old new c.args.cursor.now c.advance.new.cursor source c.in-Some-Piece.piece c.advance.result
+    c.requires.read.open_yet c.requires.read.read (c.requires.read.nested.heard c.requires.read.open_yet)
     (subst (λ given. MatchPulled (draws_of c.args.drawing.now) c.args.start old new source given) came pulled) c.advance.ensures.given

@@ -10,7 +10,8 @@ parts c = search rules
 
 pub returns-clause-pulled : goal.returns-clause-pulled
 returns-clause-pulled c =
-    subst (λ cursors. MatchPulled (draws_of c.args.drawing.now) c.args.start cursors (c.pass.new.cursors ++ c.pull_nearest-pulled.new.cursors) c.args.source.now c.pass.new.pulled) (parts c)
+    subst (λ cursors. MatchPulled (draws_of c.args.drawing.now) c.args.start cursors (c.pass.new.cursors ++ c.pull_nearest-pulled.new.cursors) c.args.source.now
+    c.pass.new.pulled) (parts c)
     (c.pass.ensures.pulled c.args.source.now c.split_at_mut-read.result.1.now c.pull_nearest-pulled.new.cursors c.pull_nearest-pulled.ensures.pulled)
 
 pub returns-clause-ops : goal.returns-clause-ops
@@ -24,4 +25,5 @@ returns-clause-ops c =
 pub returns-clause-ended : goal.returns-clause-ended
 returns-clause-ended c =
     λ unended. c.pass.ensures.ended c.pull_nearest-pulled.new.cursors
-    (c.pull_nearest-pulled.ensures.ended (λ none ended. unended none (subst (λ cursors. HaveEnded cursors) (parts c) (ended-behind c.split_at_mut-read.result.0.now c.split_at_mut-read.result.1.now ended))))
+    (c.pull_nearest-pulled.ensures.ended (λ none ended. unended none (subst (λ cursors. HaveEnded cursors) (parts c)
+    (ended-behind c.split_at_mut-read.result.0.now c.split_at_mut-read.result.1.now ended))))

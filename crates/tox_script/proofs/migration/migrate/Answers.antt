@@ -27,6 +27,7 @@ returns-in-One-clause-ok c =
     let made = c.in_ok-migrated-in-One.ensures.ok ∙ ap version_2 c.in_ok-rules-in-One.ensures in
     IfOk-weaker c.print.result _ _
     (λ text printed.
-    IsMigrated-read c.args.bytes.now (string_bytes text) d c.in_ok-script.script c.in_ok-document.ensures.ok c.in_ok-script.ensures.ok (sym c.in-One.ensures) (IsUtf8-string_bytes text)
+    IsMigrated-read c.args.bytes.now (string_bytes text) d c.in_ok-script.script c.in_ok-document.ensures.ok c.in_ok-script.ensures.ok (sym c.in-One.ensures)
+    (IsUtf8-string_bytes text)
     (printed ∙ ap Some made))
     c.print.ensures.ok

@@ -8,5 +8,6 @@ use Rattle.tox_script.proofs.script.read_rules.Given as goal
 abbrev pub invariant-loop-index : goal.invariant-loop-index
 invariant-loop-index l = record {
   count : length l.rules.items ≡ l.index;
-  left : rules_from l.settings (map (rule_view l.settings.lanes) l.rules.items) (items_view (drop l.index l.tables)) ≡ rules_from l.settings [] (items_view l.tables);
+  left : rules_from l.settings (map (rule_view l.settings.lanes) l.rules.items) (items_view (drop l.index l.tables))
+      ≡ rules_from l.settings [] (items_view l.tables);
 }

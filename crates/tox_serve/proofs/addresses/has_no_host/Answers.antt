@@ -10,7 +10,8 @@ use Rattle.tox_serve.specs.Addresses.{has_no_host}
 use Rattle.tox_serve.proofs.addresses.has_no_host.Goals as goal
 
 -- whether a text has a colon, by where one stands
-any_colon : (text : List ℕ) (found : Bool) → (found ≡ true → (k : ℕ) × (k < length text) × (get_or text k 0 ≡ 58)) × ((k : ℕ) → k < length text → get_or text k 0 ≡ 58 → found ≡ true) → list_any is_colon text ≡ found
+any_colon : (text : List ℕ) (found : Bool) → (found ≡ true → (k : ℕ) × (k < length text) × (get_or text k 0 ≡ 58))
+    × ((k : ℕ) → k < length text → get_or text k 0 ≡ 58 → found ≡ true) → list_any is_colon text ≡ found
 any_colon text true at =
     let there = at.0 refl in
     list_any_at is_colon text there.0 0 there.1 (rw there.2 refl)

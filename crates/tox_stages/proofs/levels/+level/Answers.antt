@@ -50,5 +50,6 @@ returns-clause-delivered g t c =
     let promised = c.in-Ok.ensures in
     let sends : SendsFlow reaction above out = rw (← promised.same_toxic, ← promised.same_lanes, ← promised.same_words) c.join-consumer.ensures.2 in
     let up : Delivers (reaction ∷ map (placed_reaction draws) later) above delivered =
-    level_up reaction (map (placed_reaction draws) later) above out below known delivered (toxic_keeps toxic.toxic (All-head (IsPlaced lanes) toxic later fits).0 (draws toxic.place)) sends ring c.in_ok-next.ensures.delivered in
+    level_up reaction (map (placed_reaction draws) later) above out below known delivered
+    (toxic_keeps toxic.toxic (All-head (IsPlaced lanes) toxic later fits).0 (draws toxic.place)) sends ring c.in_ok-next.ensures.delivered in
     subst (λ toxics. Delivers (map (placed_reaction draws) toxics) above delivered) (sym split) up

@@ -10,11 +10,13 @@ use Rattle.tox_stages.proofs.worker.work.Goals as goal
 
 pub returns-then-not-may_take-clause-flow : goal.returns-then-not-may_take-clause-flow
 returns-then-not-may_take-clause-flow g c =
-    misfits _ _ _ c.loop-nth.stage c.pop_waiting-item.result _ _ _ c.loop-nth.invariant.worked (sym c.may_take.ensures ∙ c.if-not-may_take.true) c.pop_waiting-item.ensures.received
+    misfits _ _ _ c.loop-nth.stage c.pop_waiting-item.result _ _ _ c.loop-nth.invariant.worked (sym c.may_take.ensures ∙ c.if-not-may_take.true)
+    c.pop_waiting-item.ensures.received
 
 pub returns-then-is_last-clause-flow : goal.returns-then-is_last-clause-flow
 returns-then-is_last-clause-flow g c =
-    worked_all c.new-stage.result _ _ c.loop-nth.stage c.pop_waiting-item.result _ _ _ c.loop-nth.invariant.worked (sym c.is_final-is_last.ensures ∙ c.if-is_last.true)
+    worked_all c.new-stage.result _ _ c.loop-nth.stage c.pop_waiting-item.result _ _ _ c.loop-nth.invariant.worked
+    (sym c.is_final-is_last.ensures ∙ c.if-is_last.true)
     (ap reaction_of c.new-stage.ensures.first ∙ c.new-stage.ensures.reacts)
     c.pop_waiting-item.ensures.received
     (c.emit_all.ensures.sent ∙ ap (λ (stage : Staged). sent c.loop-nth.producer ++ stage.pending) c.take.ensures)
@@ -25,7 +27,8 @@ loop-nth-preserved g c =
     let item = c.pop_waiting-item.result in
     let fit : fits stage.place item ≡ true = sym c.may_take.ensures ∙ c.if-not-may_take.false in
     let chunk : is_final item ≡ false = sym c.is_final-is_last.ensures ∙ c.if-is_last.false in
-    let is : c.emit_all.new.stage ≡ record (taken stage item) { pending = [] } = c.emit_all.ensures.stage ∙ ap (λ (one : Staged). record one { pending = [] }) c.take.ensures in
+    let is : c.emit_all.new.stage ≡ record (taken stage item) { pending = [] } = c.emit_all.ensures.stage
+    ∙ ap (λ (one : Staged). record one { pending = [] }) c.take.ensures in
     let grown = grows stage.place item fit chunk in
     let position : c.emit_all.new.stage.place.position ≡ (position_after stage.place item).position = ap (λ (one : Staged). one.place.position) is in
     record {

@@ -15,13 +15,17 @@ loop-place-init g c = Prints-none c.requires.working
 
 pub loop-place-preserved : goal.loop-place-preserved
 loop-place-preserved g c =
-    let here = IsAt-placed string_bytes c.args.entries.now c.args.names.now c.loop-place.place (record { toxic = Latency 0 0 0 0; toxicity = 0 }) c.index-names-place.result c.requires.one_each c.loop-place-test.true c.index-names-place.is in
-    Prints-more (λ placed. picked_toxic_line (draws_of c.args.drawing.now) placed.0 placed.1.0 placed.1.1) here c.loop-place.invariant (rw c.deref.ensures at c.in_ok-print_toxic.ensures)
+    let here = IsAt-placed string_bytes c.args.entries.now c.args.names.now c.loop-place.place (record { toxic = Latency 0 0 0 0; toxicity = 0 })
+    c.index-names-place.result c.requires.one_each c.loop-place-test.true c.index-names-place.is in
+    Prints-more (λ placed. picked_toxic_line (draws_of c.args.drawing.now) placed.0 placed.1.0 placed.1.1) here c.loop-place.invariant
+    (rw c.deref.ensures at c.in_ok-print_toxic.ensures)
 
 pub returns-in_err-print_toxic : goal.returns-in_err-print_toxic
 returns-in_err-print_toxic g c =
-    let here = IsAt-placed string_bytes c.args.entries.now c.args.names.now c.loop-place.place (record { toxic = Latency 0 0 0 0; toxicity = 0 }) c.index-names-place.result c.requires.one_each c.loop-place-test.true c.index-names-place.is in
-    Prints-stopped (λ placed. picked_toxic_line (draws_of c.args.drawing.now) placed.0 placed.1.0 placed.1.1) here c.from_residual.ensures.1 c.loop-place.invariant (rw c.deref.ensures at c.in_err-print_toxic.ensures)
+    let here = IsAt-placed string_bytes c.args.entries.now c.args.names.now c.loop-place.place (record { toxic = Latency 0 0 0 0; toxicity = 0 })
+    c.index-names-place.result c.requires.one_each c.loop-place-test.true c.index-names-place.is in
+    Prints-stopped (λ placed. picked_toxic_line (draws_of c.args.drawing.now) placed.0 placed.1.0 placed.1.1) here c.from_residual.ensures.1
+    c.loop-place.invariant (rw c.deref.ensures at c.in_err-print_toxic.ensures)
 
 pub returns : goal.returns
 returns g c =

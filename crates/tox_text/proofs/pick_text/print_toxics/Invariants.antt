@@ -8,4 +8,5 @@ use Rattle.tox_text.proofs.pick_text.print_toxics.Given as goal
 
 abbrev pub invariant-loop-place : goal.invariant-loop-place
 invariant-loop-place g l = Prints g.W.Sink (Ok tt) l.fn.printer l.printer
-    (flat_map (λ placed. picked_toxic_line (draws_of l.drawing) placed.0 placed.1.0 placed.1.1) (take l.place (enumerate_from 0 (zip l.entries (map string_bytes l.names)))))
+    (flat_map (λ placed. picked_toxic_line (draws_of l.drawing) placed.0 placed.1.0 placed.1.1)
+    (take l.place (enumerate_from 0 (zip l.entries (map string_bytes l.names)))))

@@ -4,5 +4,6 @@ use Rattle.tox_text.proofs.pick_text.write_pick.Goals as goal
 
 pub returns : goal.returns
 returns g c =
-    let written = rw c.new-printer.ensures.writer at (Writes-finished c.finish.result _ c.new-printer.ensures.empty c.in_ok-print_lines.ensures c.finish.ensures) in
+    let written = rw c.new-printer.ensures.writer at (Writes-finished c.finish.result _ c.new-printer.ensures.empty c.in_ok-print_lines.ensures
+    c.finish.ensures) in
     search (rules, written)

@@ -4,5 +4,6 @@ use Rattle.tox_text.proofs.plan_text.write_ops.Goals as goal
 
 pub returns : goal.returns
 returns g c =
-    let written = rw c.new-printer.ensures.writer at (Writes-finished c.finish.result _ c.new-printer.ensures.empty c.in_ok-print_text.ensures c.finish.ensures) in
+    let written = rw c.new-printer.ensures.writer at (Writes-finished c.finish.result _ c.new-printer.ensures.empty c.in_ok-print_text.ensures c.finish.ensures)
+    in
     search (rules, written)

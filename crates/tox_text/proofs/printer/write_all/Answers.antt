@@ -15,8 +15,14 @@ loop-sent-preserved g c =
 pub returns-in_err-count : goal.returns-in_err-count
 returns-in_err-count g c =
     let exit = err_from_is_err_and c.from_residual.result c.from_residual.ensures.1 in
-    rw exit.1 (AppendsFront-take _ _ c.args.bytes.now c.loop-sent.sent (c.in_err-count.ensures.kept ∙ c.loop-sent.invariant.written), c.in_err-count.ensures.fault)
+    rw exit.1 (
+      AppendsFront-take _ _ c.args.bytes.now c.loop-sent.sent (c.in_err-count.ensures.kept ∙ c.loop-sent.invariant.written),
+      c.in_err-count.ensures.fault,
+    )
 
 pub returns-then-count-eq0 : goal.returns-then-count-eq0
-returns-then-count-eq0 g c =
-    (AppendsFront-take _ _ c.args.bytes.now (c.loop-sent.sent + c.in_ok-count.count) (written_more _ _ _ _ _ _ c.loop-sent.invariant.written c.in_ok-count.ensures.bytes), search (rules, tests))
+returns-then-count-eq0 g c = (
+  AppendsFront-take _ _ c.args.bytes.now (c.loop-sent.sent + c.in_ok-count.count)
+      (written_more _ _ _ _ _ _ c.loop-sent.invariant.written c.in_ok-count.ensures.bytes),
+  search (rules, tests),
+)

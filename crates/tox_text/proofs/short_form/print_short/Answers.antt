@@ -13,13 +13,15 @@ returns-in_err-print g c =
 pub returns-in_err-print_attributes : goal.returns-in_err-print_attributes
 returns-in_err-print_attributes g c =
     let entry = c.args.entry.now in
-    Prints-as (printed_short-parts _ _ _ _ entry.toxic entry.toxicity c.name.ensures c.attributes.ensures.names (c.deref.ensures.0 ∙ c.values.ensures.values) refl)
+    Prints-as (printed_short-parts _ _ _ _ entry.toxic entry.toxicity c.name.ensures c.attributes.ensures.names (c.deref.ensures.0 ∙ c.values.ensures.values)
+    refl)
     (Prints-then c.in_ok-print.ensures
     (Prints-failed _ c.from_residual-in_err-print_attributes.ensures.1 c.in_err-print_attributes.ensures))
 
 pub returns : goal.returns
 returns g c =
     let entry = c.args.entry.now in
-    Prints-as (printed_short-parts _ _ _ _ entry.toxic entry.toxicity c.name.ensures c.attributes.ensures.names (c.deref.ensures.0 ∙ c.values.ensures.values) c.from-toxicity.ensures)
+    Prints-as (printed_short-parts _ _ _ _ entry.toxic entry.toxicity c.name.ensures c.attributes.ensures.names (c.deref.ensures.0 ∙ c.values.ensures.values)
+    c.from-toxicity.ensures)
     (Prints-then c.in_ok-print.ensures
     (Prints-then c.in_ok-print_attributes.ensures c.print-2.ensures))

@@ -14,7 +14,8 @@ loop-place-preserved c =
     let turn = c.loop-place in
     record {
       long = ap length c.push.ensures.items ∙ length-append turn.flags.items (c.is_applied.result ∷ []) ∙ (let h = turn.invariant.long in omega arith);
-      made = c.push.ensures.items ∙ flags-more (draws_of c.args.drawing.now) c.args.entries.now turn.place _ turn.flags.items c.is_applied.result c.loop-place-test.true c.is_applied.ensures turn.invariant.made;
+      made = c.push.ensures.items ∙ flags-more (draws_of c.args.drawing.now) c.args.entries.now turn.place _ turn.flags.items c.is_applied.result
+          c.loop-place-test.true c.is_applied.ensures turn.invariant.made;
     }
 
 pub returns : goal.returns
@@ -22,5 +23,10 @@ returns c =
     let turn = c.loop-place in
     let all = applied_flags (draws_of c.args.drawing.now) c.args.entries.now in
     let past : length all ≤ turn.place =
-    omega (arith, length-map (enumerate_from 0 c.args.entries.now) (λ placed. is_applied placed.1 placed.0 (draws_of c.args.drawing.now)), length-enumerate_from 0 c.args.entries.now, c.loop-place-test.false) in
+    omega (
+      arith,
+      length-map (enumerate_from 0 c.args.entries.now) (λ placed. is_applied placed.1 placed.0 (draws_of c.args.drawing.now)),
+      length-enumerate_from 0 c.args.entries.now,
+      c.loop-place-test.false,
+    ) in
     turn.invariant.made ∙ take_all turn.place all past

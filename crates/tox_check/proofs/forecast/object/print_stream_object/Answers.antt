@@ -10,9 +10,11 @@ use Rattle.tox_check.proofs.forecast.object.print_stream_object.Goals as goal
 pub returns : goal.returns
 returns g c =
     let met = c.args.met.now in
-    Prints-as (stream_object-fields met.proxy.now met.conn c.args.stream met.rule c.args.flags.now c.text.result c.number.result c.text-2.result c.number-2.result c.applied_field.result
+    Prints-as (stream_object-fields met.proxy.now met.conn c.args.stream met.rule c.args.flags.now c.text.result c.number.result c.text-2.result
+    c.number-2.result c.applied_field.result
     (ap field_text c.text.ensures) (ap field_text c.number.ensures)
     (ap field_text c.text-2.ensures ∙ ap (λ (word : List ℕ). text_field (codes "stream") word) c.name.ensures)
     (ap field_text c.number-2.ensures ∙ ap (λ (number : ℕ). number_field (codes "rule") number) c.number_of.ensures)
-    (c.applied_field.ensures ∙ ap (λ (items : List JsonItem). key_text (codes "applied") ++ array_text items) (c.deref.ensures.0 ∙ c.place_items-places.ensures)))
+    (c.applied_field.ensures ∙ ap (λ (items : List JsonItem). key_text (codes "applied") ++ array_text items)
+    (c.deref.ensures.0 ∙ c.place_items-places.ensures)))
     c.print_object.ensures

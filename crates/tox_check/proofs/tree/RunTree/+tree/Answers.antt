@@ -12,7 +12,8 @@ returns-in-Fork-clause-runs t c = λ runs is.
     let tree = rw c.in-Fork.is at c.requires.tree in
     let whole : List Run = runs_in c.in-Fork.field-1.value ++ runs_in c.in-Fork.field-2.value in
     let none : within c.args.range.first c.args.range.last whole ≡ [] =
-    within_none c.args.range.first c.args.range.last c.in-Fork.summary.first c.in-Fork.summary.last whole tree.0.each (c.is_outside.ensures.0 c.if-is_outside.true) in
+    within_none c.args.range.first c.args.range.last c.in-Fork.summary.first c.in-Fork.summary.last whole tree.0.each
+    (c.is_outside.ensures.0 c.if-is_outside.true) in
     rw (c.in-Fork.is, none, append-nil) is
 
 pub returns-in-Fork-2-clause-runs : goal.returns-in-Fork-2-clause-runs

@@ -12,5 +12,6 @@ invariant_of-self c =
     let joins : IsEntry (record { toxic = c.args.toxic; toxicity = c.args.toxicity }) = (c.requires.in_range, c.requires.thousandths) in
     record {
       most = grind (arith, common_steps);
-      entries_fit = subst (λ (entries : List Entry). All IsEntry entries) (sym c.push.ensures.items) (All-push IsEntry c.self.inside.entries.items _ c.self.invariant.entries_fit joins);
+      entries_fit = subst (λ (entries : List Entry). All IsEntry entries) (sym c.push.ensures.items)
+          (All-push IsEntry c.self.inside.entries.items _ c.self.invariant.entries_fit joins);
     }

@@ -19,7 +19,8 @@ returns-then-not-self c =
       | in-Quiet w ↦ w.in-Quiet.is ∙ ap final_of (sym w.ending-is)
     ] in
     rw (c.add_ending.ensures, c.after-self-inside.ensures)
-    (took_final c.self.inside.drawing c.self.inside.start c.self.inside.cursor c.self.inside.place c.args.self.now c.args.item c.match-item.ending c.map_ending-last.result none read c.if-not-self.true c.self.view_is is c.map_ending-last.ensures)
+    (took_final c.self.inside.drawing c.self.inside.start c.self.inside.cursor c.self.inside.place c.args.self.now c.args.item c.match-item.ending
+    c.map_ending-last.result none read c.if-not-self.true c.self.view_is is c.map_ending-last.ensures)
 
 pub returns-else-is_mute : goal.returns-else-is_mute
 returns-else-is_mute c =
@@ -32,4 +33,5 @@ returns-else-is_mute c =
     ap (λ place. fits place (Chunk span t)) (sym place) ∙ ap (λ item. fits c.args.self.now.place item) (sym c.in-Chunk.is) ∙ c.requires.fits in
     let facts = chunk_fits c.self.inside.place span t follows in
     rw (c.after-self-inside.ensures, c.in-Chunk.is)
-    (took_chunk c.self.inside.drawing c.self.inside.start c.self.inside.cursor c.self.inside.place c.args.self.now span t none read c.self.view_is (facts.0 ∙ c.self.invariant.here ∙ sym read) facts.1)
+    (took_chunk c.self.inside.drawing c.self.inside.start c.self.inside.cursor c.self.inside.place c.args.self.now span t none read c.self.view_is
+    (facts.0 ∙ c.self.invariant.here ∙ sym read) facts.1)

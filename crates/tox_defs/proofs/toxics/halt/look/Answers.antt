@@ -19,4 +19,5 @@ returns-in_default-clause-finds c =
           rw (w.in-Some.is, before) refl
       | in_default-via-in_default w ↦ rw w.in_default.is refl
     ] in
-    λ items. finds_all (halt_gives c.args.at.now c.args.after c.args.ending.now) c.args.state.now c.args.rest.now c.look_after.result items c.requires.running (rw same c.look_after.ensures.finds)
+    λ items. finds_all (halt_gives c.args.at.now c.args.after c.args.ending.now) c.args.state.now c.args.rest.now c.look_after.result items c.requires.running
+    (rw same c.look_after.ensures.finds)

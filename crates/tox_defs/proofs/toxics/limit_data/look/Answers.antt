@@ -7,4 +7,5 @@ use Rattle.tox_defs.proofs.toxics.limit_data.look.Goals as goal
 
 pub returns-clause-finds : goal.returns-clause-finds
 returns-clause-finds c =
-    λ items. finds_all (limit_gives c.args.bytes) c.args.state.now c.args.rest.now c.look.result items c.requires.running (c.look.ensures.finds (λ t. Closed t) refl)
+    λ items. finds_all (limit_gives c.args.bytes) c.args.state.now c.args.rest.now c.look.result items c.requires.running
+    (c.look.ensures.finds (λ t. Closed t) refl)

@@ -6,5 +6,6 @@ use Rattle.tox_defs.proofs.toxics.slicer.look.Goals as goal
 
 pub returns-clause-finds : goal.returns-clause-finds
 returns-clause-finds c =
-    λ items. slicing_found c.args.average c.args.variation c.args.micros (draws_of c.args.drawing.now c.args.lane) c.args.state.now c.args.rest.now _ items c.requires.sizes c.requires.running c.requires.some
+    λ items. slicing_found c.args.average c.args.variation c.args.micros (draws_of c.args.drawing.now c.args.lane) c.args.state.now c.args.rest.now _ items
+    c.requires.sizes c.requires.running c.requires.some
     (rw (c.after.ensures.value, c.later.ensures.value, c.front.ensures, c.varied.ensures.value) refl)

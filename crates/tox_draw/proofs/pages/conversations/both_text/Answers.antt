@@ -12,6 +12,7 @@ returns g c = record {
   above = c.in_ok-upstream.ensures;
   below = c.in_ok-downstream.ensures;
   is = c.in_ok-push_both_section.ensures.added
-      ∙ ap (λ (front : List ℕ). front ++ both_section c.args.words.now c.args.number c.args.up.now.facts c.args.down.now.facts c.in_ok-upstream.upstream c.in_ok-downstream.downstream)
+      ∙ ap (λ (front : List ℕ). front ++ both_section c.args.words.now c.args.number c.args.up.now.facts c.args.down.now.facts c.in_ok-upstream.upstream
+      c.in_ok-downstream.downstream)
       c.new-text.ensures.bytes;
 }

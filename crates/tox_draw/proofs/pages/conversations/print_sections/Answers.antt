@@ -16,10 +16,18 @@ loop-place-preserved g c =
     let xs = take c.args.count c.args.links.now in
     let link = c.index-links-place.result in
     let below : turn.place < length xs = omega (arith, length-take-le c.args.count c.args.links.now c.requires.there, c.loop-place-test.true) in
-    let here : IsAt xs turn.place link = record { below = below; default = link; is = c.index-links-place.is ∙ sym (get_or-take c.args.count c.args.links.now turn.place link c.loop-place-test.true) } in
+    let here : IsAt xs turn.place link = record {
+      below = below;
+      default = link;
+      is = c.index-links-place.is
+          ∙ sym (get_or-take c.args.count c.args.links.now turn.place link c.loop-place-test.true);
+    } in
     let before = turn.invariant in
-    let section = c.in_ok-print_section.ensures in
-    (before.0 ++ section.text, AreSections-more (g.S.LogStore.known c.args.store.now) xs turn.place link before.0 section.text here before.1 section.is, Prints-then before.2 section.shows)
+    let section = c.in_ok-print_section.ensures in (
+      before.0 ++ section.text,
+      AreSections-more (g.S.LogStore.known c.args.store.now) xs turn.place link before.0 section.text here before.1 section.is,
+      Prints-then before.2 section.shows,
+    )
 
 pub returns-in_err-print_section : goal.returns-in_err-print_section
 returns-in_err-print_section g c =
@@ -27,7 +35,12 @@ returns-in_err-print_section g c =
     let xs = take c.args.count c.args.links.now in
     let link = c.index-links-place.result in
     let below : turn.place < length xs = omega (arith, length-take-le c.args.count c.args.links.now c.requires.there, c.loop-place-test.true) in
-    let here : IsAt xs turn.place link = record { below = below; default = link; is = c.index-links-place.is ∙ sym (get_or-take c.args.count c.args.links.now turn.place link c.loop-place-test.true) } in
+    let here : IsAt xs turn.place link = record {
+      below = below;
+      default = link;
+      is = c.index-links-place.is
+          ∙ sym (get_or-take c.args.count c.args.links.now turn.place link c.loop-place-test.true);
+    } in
     let before = turn.invariant in
     let section = c.in_err-print_section.ensures in
     let others = AreSections-rest (g.S.LogStore.known c.args.store.now) xs turn.place link before.0 section.text here before.1 section.is in

@@ -10,7 +10,8 @@ use Rattle.tox_draw.proofs.pages.Linked.{is_member-more, length-links, links_of-
 use Rattle.tox_draw.proofs.pages.links.link_count.Goals as goal
 
 pub loop-row-init : goal.loop-row-init
-loop-row-init c = λ name. ap (λ (keys : List LinkName). list_any (λ key. same_link (name.proxy.now, name.number) (key.proxy.now, key.number)) keys) c.new-links.ensures.empty
+loop-row-init c = λ name. ap (λ (keys : List LinkName). list_any (λ key. same_link (name.proxy.now, name.number) (key.proxy.now, key.number)) keys)
+    c.new-links.ensures.empty
 
 pub loop-row-preserved : goal.loop-row-preserved
 loop-row-preserved c = λ name.
@@ -30,4 +31,5 @@ returns c =
     let key : Link → LinkName = λ l. record { proxy = record { ref_ptr = (0, 0); now = l.0 }; number = l.1 } in
     c.len.ensures.len
     ∙ length-links _ link key (λ l. refl) (λ a b. refl) c.loop-row.links.keys (map link_of c.args.rows.now) c.len.ensures.unique
-    (λ name. c.loop-row.invariant name ∙ ap (λ rows. is_member same_link (map link_of rows) (link name)) (take_all c.loop-row.row-index c.args.rows.now c.loop-row-test.false))
+    (λ name. c.loop-row.invariant name ∙ ap (λ rows. is_member same_link (map link_of rows) (link name))
+    (take_all c.loop-row.row-index c.args.rows.now c.loop-row-test.false))

@@ -19,7 +19,8 @@ returns c =
     let all : LinksSoFar turn.sorted turn.waiting [] rows = subst (λ left. LinksSoFar turn.sorted turn.waiting left rows) none turn.invariant.2 in
     let sorts : SortsLinks c.match-waiting.sorted (link_logs_of rows) = elim c.match-waiting.branch [
       | in-Some-waiting+in_ok-add w ↦
-          let last : LinksSoFar turn.sorted (Some w.in-Some-waiting.row) [] rows = subst (λ (waiting : Option Row). LinksSoFar turn.sorted waiting [] rows) w.in-Some-waiting.is all in
+          let last : LinksSoFar turn.sorted (Some w.in-Some-waiting.row) [] rows =
+          subst (λ (waiting : Option Row). LinksSoFar turn.sorted waiting [] rows) w.in-Some-waiting.is all in
           subst (λ (sorted : SortedLinks). SortsLinks sorted (link_logs_of rows)) (sym w.sorted-is)
           (sorts-all w.add.new.self rows (takes-last turn.sorted w.add.new.self w.in-Some-waiting.row rows w.in_ok-add.ensures last))
       | in_default w ↦

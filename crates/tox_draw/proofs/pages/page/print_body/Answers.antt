@@ -19,7 +19,12 @@ returns-in_err-print_sections g c =
     let sections = c.in_err-print_sections.ensures in
     record {
       text = page_list c.args.refusals.now c.args.links.now c.args.shown ++ (sections.text ++ page_end);
-      is = record { sections = sections.text; drawn = AreSections-min (g.S.LogStore.known c.args.store.now) c.args.links.now c.args.shown c.min-count.result sections.text c.min-count.ensures sections.is; whole = refl };
+      is = record {
+        sections = sections.text;
+        drawn = AreSections-min (g.S.LogStore.known c.args.store.now) c.args.links.now c.args.shown c.min-count.result
+            sections.text c.min-count.ensures sections.is;
+        whole = refl;
+      };
       shows = Prints-then c.in_ok-print_list.ensures
           (Prints-failed _ c.from_residual-in_err-print_sections.ensures.1 sections.shows);
     }
@@ -29,7 +34,12 @@ returns g c =
     let sections = c.in_ok-print_sections.ensures in
     record {
       text = page_list c.args.refusals.now c.args.links.now c.args.shown ++ (sections.text ++ page_end);
-      is = record { sections = sections.text; drawn = AreSections-min (g.S.LogStore.known c.args.store.now) c.args.links.now c.args.shown c.min-count.result sections.text c.min-count.ensures sections.is; whole = refl };
+      is = record {
+        sections = sections.text;
+        drawn = AreSections-min (g.S.LogStore.known c.args.store.now) c.args.links.now c.args.shown c.min-count.result
+            sections.text c.min-count.ensures sections.is;
+        whole = refl;
+      };
       shows = Prints-then c.in_ok-print_list.ensures
           (Prints-then sections.shows c.print_page_end.ensures);
     }

@@ -7,4 +7,5 @@ use Rattle.tox_draw.proofs.pages.totals.latest_of.Goals as goal
 
 pub returns : goal.returns
 returns c =
-    c.loop-row.invariant ∙ ap (fold (λ (before : Option ℕ) (row : Row). late_with before row.facts) None) (take_all c.loop-row.row-index c.args.rows.now c.loop-row-test.false)
+    c.loop-row.invariant ∙ ap (fold (λ (before : Option ℕ) (row : Row). late_with before row.facts) None)
+    (take_all c.loop-row.row-index c.args.rows.now c.loop-row-test.false)

@@ -9,4 +9,5 @@ use Rattle.tox_draw.proofs.pages.totals.seed_of.Goals as goal
 
 pub returns : goal.returns
 returns c =
-    c.loop-row.invariant ∙ ap (fold (λ (before : Seed) (row : Row). seed_with before row.facts.seed) Unknown) (take_all c.loop-row.row-index c.args.rows.now c.loop-row-test.false)
+    c.loop-row.invariant ∙ ap (fold (λ (before : Seed) (row : Row). seed_with before row.facts.seed) Unknown)
+    (take_all c.loop-row.row-index c.args.rows.now c.loop-row-test.false)

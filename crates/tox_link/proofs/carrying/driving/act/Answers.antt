@@ -35,7 +35,8 @@ returns-in_ok-write_next-in-Write-clause-log g c =
     record {
       more = _;
       noted = c.in_ok-write_next-in-Write.ensures.ok.3;
-      keeps = logged-act (g.C.Clock.reported c.args.clock.now) c.args.side.now c.write_next.new.side c.decide-act.new.core c.decide-act.result.0 (Write c.in-Write.slice) c.decide-act.result.1 c.decide-act.ensures.carried c.in-Write.is same.0 same.2;
+      keeps = logged-act (g.C.Clock.reported c.args.clock.now) c.args.side.now c.write_next.new.side c.decide-act.new.core c.decide-act.result.0
+          (Write c.in-Write.slice) c.decide-act.result.1 c.decide-act.ensures.carried c.in-Write.is same.0 same.2;
     }
 
 pub returns-in_default-clause-ok : goal.returns-in_default-clause-ok
@@ -48,7 +49,8 @@ pub returns-in_default-clause-log : goal.returns-in_default-clause-log
 returns-in_default-clause-log g c = record {
   more = [];
   noted = events-none (g.N.Notes.events c.args.notes.now);
-  keeps = logged-act (g.C.Clock.reported c.args.clock.now) c.args.side.now _ c.decide-act.new.core c.decide-act.result.0 (WaitUntil c.in-WaitUntil.instant) c.decide-act.result.1 c.decide-act.ensures.carried c.in-WaitUntil.is refl refl;
+  keeps = logged-act (g.C.Clock.reported c.args.clock.now) c.args.side.now _ c.decide-act.new.core c.decide-act.result.0 (WaitUntil c.in-WaitUntil.instant)
+      c.decide-act.result.1 c.decide-act.ensures.carried c.in-WaitUntil.is refl refl;
 }
 
 pub returns-in_err-rest-in-WaitUntil-clause-broken : goal.returns-in_err-rest-in-WaitUntil-clause-broken
@@ -66,23 +68,29 @@ returns-in_err-rest-in-WaitUntil-clause-broken g c =
 pub returns-in_ok-rest-in-WaitUntil-clause-ok : goal.returns-in_ok-rest-in-WaitUntil-clause-ok
 returns-in_ok-rest-in-WaitUntil-clause-ok g c =
     let answered = c.decide-act.ensures.answered in
-    let leaves = subst (λ (act : Act). After c.args.side.now.core c.decide-act.result.1 act c.decide-act.new.core) c.in-WaitUntil.is answered.output in
-    (sound-waited c.args.side.now c.args.side.now.inbox c.decide-act.new.core _ c.requires.sound answered.kept leaves.1.position, c.in_ok-rest-in-WaitUntil.ensures.ok, tt)
+    let leaves = subst (λ (act : Act). After c.args.side.now.core c.decide-act.result.1 act c.decide-act.new.core) c.in-WaitUntil.is answered.output in (
+      sound-waited c.args.side.now c.args.side.now.inbox c.decide-act.new.core _ c.requires.sound answered.kept leaves.1.position,
+      c.in_ok-rest-in-WaitUntil.ensures.ok,
+      tt,
+    )
 
 pub returns-in_ok-rest-in-WaitUntil-clause-log : goal.returns-in_ok-rest-in-WaitUntil-clause-log
 returns-in_ok-rest-in-WaitUntil-clause-log g c = record {
   more = [];
   noted = events-none (g.N.Notes.events c.args.notes.now);
-  keeps = logged-act (g.C.Clock.reported c.args.clock.now) c.args.side.now _ c.decide-act.new.core c.decide-act.result.0 (WaitUntil c.in-WaitUntil.instant) c.decide-act.result.1 c.decide-act.ensures.carried c.in-WaitUntil.is refl refl;
+  keeps = logged-act (g.C.Clock.reported c.args.clock.now) c.args.side.now _ c.decide-act.new.core c.decide-act.result.0 (WaitUntil c.in-WaitUntil.instant)
+      c.decide-act.result.1 c.decide-act.ensures.carried c.in-WaitUntil.is refl refl;
 }
 
 pub returns-after-idle-2-clause-ok : goal.returns-after-idle-2-clause-ok
 returns-after-idle-2-clause-ok g c =
     let answered = c.decide-act.ensures.answered in
     let leaves = subst (λ (act : Act). After c.args.side.now.core c.decide-act.result.1 act c.decide-act.new.core) c.in-WaitForInput.is answered.output in
-    let waited = λ (inbox : Inbox). sound-waited c.args.side.now inbox c.decide-act.new.core (received c.args.side.now.inbox.receiver) c.requires.sound answered.kept leaves.position in
+    let waited = λ (inbox : Inbox). sound-waited c.args.side.now inbox c.decide-act.new.core (received c.args.side.now.inbox.receiver) c.requires.sound
+    answered.kept leaves.position in
     let sound : IsSound c.match-idle-2.side (received c.match-idle-2.side.inbox.receiver) = elim c.match-idle-2.branch [
-      | in-Some-idle w ↦ subst (λ (side : WriterSide). IsSound side (received side.inbox.receiver)) (sym w.side-is) (subst (IsSound _) (ap received (sym w.wait.ensures)) (waited w.wait.new.self))
+      | in-Some-idle w ↦ subst (λ (side : WriterSide). IsSound side (received side.inbox.receiver)) (sym w.side-is)
+          (subst (IsSound _) (ap received (sym w.wait.ensures)) (waited w.wait.new.self))
       | in_default-idle w ↦ subst (λ (side : WriterSide). IsSound side (received side.inbox.receiver)) (sym w.side-is) (waited c.args.side.now.inbox)
     ] in
     (sound, c.requires.working, tt)
@@ -96,7 +104,8 @@ returns-after-idle-2-clause-log g c =
     record {
       more = [];
       noted = events-none (g.N.Notes.events c.args.notes.now);
-      keeps = logged-act (g.C.Clock.reported c.args.clock.now) c.args.side.now c.match-idle-2.side c.decide-act.new.core c.decide-act.result.0 WaitForInput c.decide-act.result.1 c.decide-act.ensures.carried c.in-WaitForInput.is same.0 same.1;
+      keeps = logged-act (g.C.Clock.reported c.args.clock.now) c.args.side.now c.match-idle-2.side c.decide-act.new.core c.decide-act.result.0 WaitForInput
+          c.decide-act.result.1 c.decide-act.ensures.carried c.in-WaitForInput.is same.0 same.1;
     }
 
 pub returns-in-End-clause-ok : goal.returns-in-End-clause-ok
@@ -105,12 +114,14 @@ returns-in-End-clause-ok g c =
     let leaves = subst (λ (act : Act). After c.args.side.now.core c.decide-act.result.1 act c.decide-act.new.core) c.in-End.is answered.output in (
       sound-waited c.args.side.now c.args.side.now.inbox c.decide-act.new.core _ c.requires.sound answered.kept leaves.position,
       c.requires.working,
-      ended-so (g.C.Clock.reported c.args.clock.now) c.args.side.now.core c.decide-act.new.core c.decide-act.result.1 c.decide-act.result.0 c.in-End.ending c.args.side.now.ended answered c.in-End.is c.decide-act.ensures.reported.0 c.requires.sound.going,
+      ended-so (g.C.Clock.reported c.args.clock.now) c.args.side.now.core c.decide-act.new.core c.decide-act.result.1 c.decide-act.result.0 c.in-End.ending
+          c.args.side.now.ended answered c.in-End.is c.decide-act.ensures.reported.0 c.requires.sound.going,
     )
 
 pub returns-in-End-clause-log : goal.returns-in-End-clause-log
 returns-in-End-clause-log g c = record {
   more = [];
   noted = events-none (g.N.Notes.events c.args.notes.now);
-  keeps = logged-act (g.C.Clock.reported c.args.clock.now) c.args.side.now _ c.decide-act.new.core c.decide-act.result.0 (End c.in-End.ending) c.decide-act.result.1 c.decide-act.ensures.carried c.in-End.is refl refl;
+  keeps = logged-act (g.C.Clock.reported c.args.clock.now) c.args.side.now _ c.decide-act.new.core c.decide-act.result.0 (End c.in-End.ending)
+      c.decide-act.result.1 c.decide-act.ensures.carried c.in-End.is refl refl;
 }

@@ -30,7 +30,8 @@ act-requires-clause-read g c =
     let before = c.loop.invariant.log in
     let taken = c.in-Ok.ensures.log in
     let reported = g.C.Clock.reported c.args.clock.now in
-    logged-read reported c.args.side.now c.take_message.new.side (before.log ++ taken.more) c.requires.fresh (logs-on reported c.args.side.now c.loop.side c.take_message.new.side before.log taken.more before.logs taken.keeps)
+    logged-read reported c.args.side.now c.take_message.new.side (before.log ++ taken.more) c.requires.fresh
+    (logs-on reported c.args.side.now c.loop.side c.take_message.new.side before.log taken.more before.logs taken.keeps)
 
 pub returns-in_err-ending-clause-broken : goal.returns-in_err-ending-clause-broken
 returns-in_err-ending-clause-broken g c =
@@ -42,9 +43,12 @@ returns-in_err-ending-clause-broken g c =
     rw (p.1, p.2) (record {
       at = err.at;
       log = before.log ++ taken.more;
-      noted = err.unnoted ∙ events-append (g.N.Notes.events c.args.notes.now) (g.N.Notes.events c.loop.notes) (g.N.Notes.events c.take_message.new.notes) before.log taken.more before.noted taken.noted;
-      cuts = cuts-on reported c.args.side.now c.take_message.new.side (before.log ++ taken.more) c.act.new.side.written (logs-on reported c.args.side.now c.loop.side c.take_message.new.side before.log taken.more before.logs taken.keeps) err.cuts;
-      reset = resets-on reported c.args.side.now c.take_message.new.side (before.log ++ taken.more) _ c.requires.fresh (logs-on reported c.args.side.now c.loop.side c.take_message.new.side before.log taken.more before.logs taken.keeps) err.reads;
+      noted = err.unnoted ∙ events-append (g.N.Notes.events c.args.notes.now) (g.N.Notes.events c.loop.notes) (g.N.Notes.events c.take_message.new.notes)
+          before.log taken.more before.noted taken.noted;
+      cuts = cuts-on reported c.args.side.now c.take_message.new.side (before.log ++ taken.more) c.act.new.side.written
+          (logs-on reported c.args.side.now c.loop.side c.take_message.new.side before.log taken.more before.logs taken.keeps) err.cuts;
+      reset = resets-on reported c.args.side.now c.take_message.new.side (before.log ++ taken.more) _ c.requires.fresh
+          (logs-on reported c.args.side.now c.loop.side c.take_message.new.side before.log taken.more before.logs taken.keeps) err.reads;
     })
 
 pub returns-in-Some-2-clause-log : goal.returns-in-Some-2-clause-log
@@ -55,9 +59,12 @@ returns-in-Some-2-clause-log g c =
     let reported = g.C.Clock.reported c.args.clock.now in
     record {
       log = (before.log ++ taken.more) ++ acted.more;
-      noted = events-append (g.N.Notes.events c.args.notes.now) (g.N.Notes.events c.take_message.new.notes) (g.N.Notes.events c.act.new.notes) (before.log ++ taken.more) acted.more
-          (events-append (g.N.Notes.events c.args.notes.now) (g.N.Notes.events c.loop.notes) (g.N.Notes.events c.take_message.new.notes) before.log taken.more before.noted taken.noted) acted.noted;
-      logs = logs-on reported c.args.side.now c.take_message.new.side c.act.new.side (before.log ++ taken.more) acted.more (logs-on reported c.args.side.now c.loop.side c.take_message.new.side before.log taken.more before.logs taken.keeps) acted.keeps;
+      noted = events-append (g.N.Notes.events c.args.notes.now) (g.N.Notes.events c.take_message.new.notes) (g.N.Notes.events c.act.new.notes)
+          (before.log ++ taken.more) acted.more
+          (events-append (g.N.Notes.events c.args.notes.now) (g.N.Notes.events c.loop.notes) (g.N.Notes.events c.take_message.new.notes) before.log taken.more
+          before.noted taken.noted) acted.noted;
+      logs = logs-on reported c.args.side.now c.take_message.new.side c.act.new.side (before.log ++ taken.more) acted.more
+          (logs-on reported c.args.side.now c.loop.side c.take_message.new.side before.log taken.more before.logs taken.keeps) acted.keeps;
     }
 
 pub loop-preserved : goal.loop-preserved
@@ -71,12 +78,16 @@ loop-preserved g c =
     record {
       ring = search rules;
       sound = c.in_ok-ending.ensures.ok.0;
-      written = c.act.ensures.written base (c.loop.invariant.written ∙ ap (append_known base) (sym (came-front c.loop.side c.take_message.new.side came.0 c.loop.invariant.sound c.take_message.ensures.same.1 came.1)));
+      written = c.act.ensures.written base (c.loop.invariant.written ∙ ap (append_known base)
+          (sym (came-front c.loop.side c.take_message.new.side came.0 c.loop.invariant.sound c.take_message.ensures.same.1 came.1)));
       working = c.in_ok-ending.ensures.ok.1;
       log = record {
         log = (before.log ++ taken.more) ++ acted.more;
-        noted = events-append (g.N.Notes.events c.args.notes.now) (g.N.Notes.events c.take_message.new.notes) (g.N.Notes.events c.act.new.notes) (before.log ++ taken.more) acted.more
-            (events-append (g.N.Notes.events c.args.notes.now) (g.N.Notes.events c.loop.notes) (g.N.Notes.events c.take_message.new.notes) before.log taken.more before.noted taken.noted) acted.noted;
-        logs = logs-on reported c.args.side.now c.take_message.new.side c.act.new.side (before.log ++ taken.more) acted.more (logs-on reported c.args.side.now c.loop.side c.take_message.new.side before.log taken.more before.logs taken.keeps) acted.keeps;
+        noted = events-append (g.N.Notes.events c.args.notes.now) (g.N.Notes.events c.take_message.new.notes) (g.N.Notes.events c.act.new.notes)
+            (before.log ++ taken.more) acted.more
+            (events-append (g.N.Notes.events c.args.notes.now) (g.N.Notes.events c.loop.notes) (g.N.Notes.events c.take_message.new.notes) before.log taken.more
+            before.noted taken.noted) acted.noted;
+        logs = logs-on reported c.args.side.now c.take_message.new.side c.act.new.side (before.log ++ taken.more) acted.more
+            (logs-on reported c.args.side.now c.loop.side c.take_message.new.side before.log taken.more before.logs taken.keeps) acted.keeps;
       };
     }

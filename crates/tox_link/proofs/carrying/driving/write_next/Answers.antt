@@ -17,11 +17,13 @@ overflow_add-side g c =
 still-held : (position : ℕ) (pieces : List Run) → All (λ piece. position < stop_of piece) (filter (λ piece. nat_lt position (stop_of piece)) pieces)
 still-held position pieces =
     let passes = λ (piece : Run). nat_lt position (stop_of piece) in
-    All-weaker (λ piece. passes piece ≡ true) (λ piece. position < stop_of piece) (λ piece passed. ltb-true position (stop_of piece) passed) (filter passes pieces) (filter_passes passes pieces)
+    All-weaker (λ piece. passes piece ≡ true) (λ piece. position < stop_of piece) (λ piece passed. ltb-true position (stop_of piece) passed)
+    (filter passes pieces) (filter_passes passes pieces)
 
 pub returns-clause-ok : goal.returns-clause-ok
 returns-clause-ok g c =
     let stop = c.args.slice.now.span.stop in
     let held : All (λ piece. c.give_up.new.self.written < stop_of piece) c.give_up.new.self.window.held
-    = subst (λ (side : WriterSide). All (λ piece. side.written < stop_of piece) side.window.held) (sym c.give_up.ensures) (still-held stop c.args.side.now.window.held) in
+    = subst (λ (side : WriterSide). All (λ piece. side.written < stop_of piece) side.window.held) (sym c.give_up.ensures)
+    (still-held stop c.args.side.now.window.held) in
     (sound-wrote c.args.side.now c.give_up.new.self c.args.slice.now c.requires.due c.give_up.ensures, search rules, held, search rules)

@@ -17,7 +17,12 @@ pub returns-in_default-clause-log : goal.returns-in_default-clause-log
 returns-in_default-clause-log g c =
     let noted = c.in_ok-take_end.ensures.carried in
     let none : is_none (core_ending c.args.side.now.core) ≡ false = known-some _ (λ none. c.in_default.not-None (c.ending.ensures.value ∙ none)) in
-    record { more = noted.more; noted = noted.noted; keeps = logged-on (g.C.Clock.reported c.args.clock.now) c.args.side.now _ noted.more noted.keeps (noted.end ∙ none) refl }
+    record {
+      more = noted.more;
+      noted = noted.noted;
+      keeps = logged-on (g.C.Clock.reported c.args.clock.now) c.args.side.now _ noted.more noted.keeps
+          (noted.end ∙ none) refl;
+    }
 
 pub returns-clause-ok : goal.returns-clause-ok
 returns-clause-ok g c =
@@ -33,6 +38,7 @@ returns-clause-log g c =
     record {
       more = noted.more;
       noted = noted.noted;
-      keeps = logged-end (g.C.Clock.reported c.args.clock.now) c.args.side.now _ noted.more noted.keeps (open-none c.args.side.now came.before came.sound came.going)
+      keeps = logged-end (g.C.Clock.reported c.args.clock.now) c.args.side.now _ noted.more noted.keeps
+          (open-none c.args.side.now came.before came.sound came.going)
           (noted.end ∙ ap is_none (sym c.ending.ensures.value ∙ c.in-None.is) ∙ sym (ap is_some c.in_ok-side.ensures));
     }

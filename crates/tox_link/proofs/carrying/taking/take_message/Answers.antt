@@ -39,40 +39,62 @@ pub returns-in_err-keep_piece-in-Piece-clause-came :
 returns-in_err-keep_piece-in-Piece-clause-came g c =
     let before = received c.args.side.now.inbox.receiver in
     came-more c.keep_piece.new.side before (Piece c.in-Piece.bytes)
-    (ap (λ (inbox : Inbox). received inbox.receiver) c.keep_piece.ensures.same.0 ∙ c.in-Ok.ensures.some.0 ∙ ap (λ (message : Message). before ++ message ∷ []) c.in-Piece.is)
+    (ap (λ (inbox : Inbox). received inbox.receiver) c.keep_piece.ensures.same.0 ∙ c.in-Ok.ensures.some.0
+    ∙ ap (λ (message : Message). before ++ message ∷ []) c.in-Piece.is)
 
 pub returns-in_err-keep_end-in-End-clause-came : goal.returns-in_err-keep_end-in-End-clause-came
 returns-in_err-keep_end-in-End-clause-came g c =
     let before = received c.args.side.now.inbox.receiver in
     came-more c.keep_end.new.side before (End c.in-End.end)
-    (ap (λ (inbox : Inbox). received inbox.receiver) c.keep_end.ensures.same.0 ∙ c.in-Ok.ensures.some.0 ∙ ap (λ (message : Message). before ++ message ∷ []) c.in-End.is)
+    (ap (λ (inbox : Inbox). received inbox.receiver) c.keep_end.ensures.same.0 ∙ c.in-Ok.ensures.some.0
+    ∙ ap (λ (message : Message). before ++ message ∷ []) c.in-End.is)
 
 pub returns-in_ok-keep_piece-in-Piece-clause-came :
     goal.returns-in_ok-keep_piece-in-Piece-clause-came
 returns-in_ok-keep_piece-in-Piece-clause-came g c =
     let before = received c.args.side.now.inbox.receiver in
     came-more c.keep_piece.new.side before (Piece c.in-Piece.bytes)
-    (ap (λ (inbox : Inbox). received inbox.receiver) c.keep_piece.ensures.same.0 ∙ c.in-Ok.ensures.some.0 ∙ ap (λ (message : Message). before ++ message ∷ []) c.in-Piece.is)
+    (ap (λ (inbox : Inbox). received inbox.receiver) c.keep_piece.ensures.same.0 ∙ c.in-Ok.ensures.some.0
+    ∙ ap (λ (message : Message). before ++ message ∷ []) c.in-Piece.is)
 
 pub returns-in_ok-keep_piece-in-Piece-clause-log :
     goal.returns-in_ok-keep_piece-in-Piece-clause-log
 returns-in_ok-keep_piece-in-Piece-clause-log g c =
     let noted = c.in_ok-keep_piece-in-Piece.ensures.log in
-    record { more = noted.more; noted = noted.noted; keeps = keeps-inbox (g.C.Clock.reported c.args.clock.now) c.args.side.now c.keep_piece.new.side c.pop.new.self noted.more noted.keeps }
+    record {
+      more = noted.more;
+      noted = noted.noted;
+      keeps = keeps-inbox (g.C.Clock.reported c.args.clock.now) c.args.side.now c.keep_piece.new.side
+          c.pop.new.self noted.more noted.keeps;
+    }
 
 pub returns-in_ok-keep_end-in-End-clause-came : goal.returns-in_ok-keep_end-in-End-clause-came
 returns-in_ok-keep_end-in-End-clause-came g c =
     let before = received c.args.side.now.inbox.receiver in
     came-more c.keep_end.new.side before (End c.in-End.end)
-    (ap (λ (inbox : Inbox). received inbox.receiver) c.keep_end.ensures.same.0 ∙ c.in-Ok.ensures.some.0 ∙ ap (λ (message : Message). before ++ message ∷ []) c.in-End.is)
+    (ap (λ (inbox : Inbox). received inbox.receiver) c.keep_end.ensures.same.0 ∙ c.in-Ok.ensures.some.0
+    ∙ ap (λ (message : Message). before ++ message ∷ []) c.in-End.is)
 
 pub returns-in_ok-keep_end-in-End-clause-log : goal.returns-in_ok-keep_end-in-End-clause-log
 returns-in_ok-keep_end-in-End-clause-log g c =
     let noted = c.in_ok-keep_end-in-End.ensures.log in
-    record { more = noted.more; noted = noted.noted; keeps = keeps-inbox (g.C.Clock.reported c.args.clock.now) c.args.side.now c.keep_end.new.side c.pop.new.self noted.more noted.keeps }
+    record {
+      more = noted.more;
+      noted = noted.noted;
+      keeps = keeps-inbox (g.C.Clock.reported c.args.clock.now) c.args.side.now c.keep_end.new.side
+          c.pop.new.self noted.more noted.keeps;
+    }
 
 pub returns-in_ok-keep_piece-in-Piece-clause-took : goal.returns-in_ok-keep_piece-in-Piece-clause-took
-returns-in_ok-keep_piece-in-Piece-clause-took g c = (c.in-Ok.message, ap (λ (inbox : Inbox). received inbox.receiver) c.keep_piece.ensures.same.0 ∙ c.in-Ok.ensures.some.0)
+returns-in_ok-keep_piece-in-Piece-clause-took g c = (
+  c.in-Ok.message,
+  ap (λ (inbox : Inbox). received inbox.receiver) c.keep_piece.ensures.same.0
+      ∙ c.in-Ok.ensures.some.0,
+)
 
 pub returns-in_ok-keep_end-in-End-clause-took : goal.returns-in_ok-keep_end-in-End-clause-took
-returns-in_ok-keep_end-in-End-clause-took g c = (c.in-Ok.message, ap (λ (inbox : Inbox). received inbox.receiver) c.keep_end.ensures.same.0 ∙ c.in-Ok.ensures.some.0)
+returns-in_ok-keep_end-in-End-clause-took g c = (
+  c.in-Ok.message,
+  ap (λ (inbox : Inbox). received inbox.receiver) c.keep_end.ensures.same.0
+      ∙ c.in-Ok.ensures.some.0,
+)

@@ -15,6 +15,7 @@ loop-done-preserved g c =
     let within = c.loop-done.invariant.within in
     record {
       within = omega arith;
-      written = written_more (g.W.Sink.written c.args.writer.now) (g.W.Sink.written c.loop-done.writer) (g.W.Sink.written c.write.new.self) bytes done count c.loop-done.invariant.written (rw all at c.in-Ok.ensures.bytes);
+      written = written_more (g.W.Sink.written c.args.writer.now) (g.W.Sink.written c.loop-done.writer) (g.W.Sink.written c.write.new.self) bytes done count
+          c.loop-done.invariant.written (rw all at c.in-Ok.ensures.bytes);
       working = search rules;
     }

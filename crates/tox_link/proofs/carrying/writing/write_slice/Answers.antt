@@ -14,7 +14,8 @@ loop-start-preserved g c =
       to_stop = c.front_of-front.ensures.few;
       working = c.in-Ok.ensures.ok.1;
       written = λ base heard parts before.
-          written_more base (g.W.Sink.written c.loop-start.writer) (g.W.Sink.written c.write_all.new.writer) heard c.loop-start.start count (on.written base heard parts before)
+          written_more base (g.W.Sink.written c.loop-start.writer) (g.W.Sink.written c.write_all.new.writer) heard c.loop-start.start count
+          (on.written base heard parts before)
           (c.in-Ok.ensures.ok.0 ∙ ap (append_known (g.W.Sink.written c.loop-start.writer)) (c.front_of-front.ensures.bytes heard parts));
     }
 
@@ -24,7 +25,8 @@ returns-in-Err-clause-err g c =
     let done = c.in-Err.done in
     let front = c.front_of-front.result.now in
     λ base heard parts before.
-    written_more base (g.W.Sink.written c.loop-start.writer) (g.W.Sink.written c.write_all.new.writer) heard c.loop-start.start done (on.written base heard parts before)
+    written_more base (g.W.Sink.written c.loop-start.writer) (g.W.Sink.written c.write_all.new.writer) heard c.loop-start.start done
+    (on.written base heard parts before)
     (c.in-Err.ensures.err.1 ∙ ap (λ bytes. append_known (g.W.Sink.written c.loop-start.writer) (take done bytes)) (c.front_of-front.ensures.bytes heard parts)
     ∙ ap (append_known (g.W.Sink.written c.loop-start.writer)) (take-take done (length front) (drop c.loop-start.start heard) c.in-Err.ensures.err.0))
     ∙ ap (λ n. append_known base (take n heard)) (omega (arith, on.from_start))

@@ -10,7 +10,8 @@ pub returns-in_err-take_end-clause-drove : goal.returns-in_err-take_end-clause-d
 returns-in_err-take_end-clause-drove g c =
     let refused = c.in_err-take_end.ensures.err in
     λ bytes left written over.
-    drove-shut (g.C.Clock.reported c.args.clock.now) c.args.link.now _ bytes left written (g.N.Notes.events c.args.notes.now) _ c.requires.held c.requires.idle c.requires.going refl refl refl refl refused.1 refl refused.0
+    drove-shut (g.C.Clock.reported c.args.clock.now) c.args.link.now _ bytes left written (g.N.Notes.events c.args.notes.now) _ c.requires.held c.requires.idle
+    c.requires.going refl refl refl refl refused.1 refl refused.0
 
 pub returns-in_default-clause-drove : goal.returns-in_default-clause-drove
 returns-in_default-clause-drove g c =
@@ -19,7 +20,8 @@ returns-in_default-clause-drove g c =
     let never = λ (none : core_ending c.args.link.now.core ≡ None). c.in_default.not-None (c.ending-ending.ensures.value ∙ none) in
     let open_source = c.requires.held.unheard c.requires.going in
     λ bytes left written over.
-    drove-ended (g.C.Clock.reported c.args.clock.now) c.args.link.now _ bytes left written (g.N.Notes.events c.args.notes.now) _ c.requires.held c.requires.idle c.requires.going refl refl refl refl noted.more counts.bytes_are counts.position counts.cuts noted.noted noted.keeps
+    drove-ended (g.C.Clock.reported c.args.clock.now) c.args.link.now _ bytes left written (g.N.Notes.events c.args.notes.now) _ c.requires.held c.requires.idle
+    c.requires.going refl refl refl refl noted.more counts.bytes_are counts.position counts.cuts noted.noted noted.keeps
     (noted.end ∙ known-some _ never ∙ sym (ap is_some open_source)) (λ none. absurd (never none)) (λ known. open_source)
 
 pub returns-clause-drove : goal.returns-clause-drove
@@ -28,5 +30,6 @@ returns-clause-drove g c =
     let noted = c.in_ok-take_end.ensures.carried in
     let unknown = sym c.ending-ending.ensures.value ∙ c.in-None.is in
     λ bytes left written over.
-    drove-ended (g.C.Clock.reported c.args.clock.now) c.args.link.now _ bytes left written (g.N.Notes.events c.args.notes.now) _ c.requires.held c.requires.idle c.requires.going refl refl refl refl noted.more counts.bytes_are counts.position counts.cuts noted.noted noted.keeps
+    drove-ended (g.C.Clock.reported c.args.clock.now) c.args.link.now _ bytes left written (g.N.Notes.events c.args.notes.now) _ c.requires.held c.requires.idle
+    c.requires.going refl refl refl refl noted.more counts.bytes_are counts.position counts.cuts noted.noted noted.keeps
     (noted.end ∙ ap is_none unknown ∙ sym c.requires.why) (λ none. over) (λ never. absurd (never unknown))

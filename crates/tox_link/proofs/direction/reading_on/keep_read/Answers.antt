@@ -17,11 +17,14 @@ returns-then-is_some-clause-drove g c =
     cc
     in
     λ left written.
-    drove-took (g.C.Clock.reported c.args.clock.now) link _ c.args.bytes.now left written (g.N.Notes.events c.args.notes.now) _ [] (events-none (g.N.Notes.events c.args.notes.now))
-    (drives-dropped (g.C.Clock.reported c.args.clock.now) link c.args.bytes.now link.ended written c.requires.held c.requires.idle c.requires.room.0 (λ going. never))
+    drove-took (g.C.Clock.reported c.args.clock.now) link _ c.args.bytes.now left written (g.N.Notes.events c.args.notes.now) _ []
+    (events-none (g.N.Notes.events c.args.notes.now))
+    (drives-dropped (g.C.Clock.reported c.args.clock.now) link c.args.bytes.now link.ended written c.requires.held c.requires.idle c.requires.room.0
+    (λ going. never))
     (record { found = omega arith; cuts = omega arith; written = omega arith; ended = omega arith }) (omega arith) (omega (arith, c.requires.some))
 
 pub returns-in_default-clause-drove : goal.returns-in_default-clause-drove
 returns-in_default-clause-drove g c =
     λ left written.
-    drove-shut (g.C.Clock.reported c.args.clock.now) c.args.link.now _ c.args.bytes.now left written (g.N.Notes.events c.args.notes.now) _ c.requires.held c.requires.idle c.requires.room.0 refl refl refl refl refl refl refl
+    drove-shut (g.C.Clock.reported c.args.clock.now) c.args.link.now _ c.args.bytes.now left written (g.N.Notes.events c.args.notes.now) _ c.requires.held
+    c.requires.idle c.requires.room.0 refl refl refl refl refl refl refl

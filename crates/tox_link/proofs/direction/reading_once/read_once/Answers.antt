@@ -9,7 +9,8 @@ pub returns-in_err-end_source-clause-drove : goal.returns-in_err-end_source-clau
 returns-in_err-end_source-clause-drove g c =
     let left = g.S.PollSource.remaining c.poll_read.new.self in
     λ written.
-    drove-read 1 _ (g.C.Clock.reported c.args.clock.now) c.args.link.now c.end_source.new.link _ (prepend_known [] left) left written written _ _ (move-few c.from_residual.result)
+    drove-read 1 _ (g.C.Clock.reported c.args.clock.now) c.args.link.now c.end_source.new.link _ (prepend_known [] left) left written written _ _
+    (move-few c.from_residual.result)
     (sym c.in_default.ensures.fault.1 ∙ prepend-nil left) (c.end_source.ensures.drove [] left written (λ came long. refl))
 
 pub returns-in_default-clause-drove : goal.returns-in_default-clause-drove
@@ -30,12 +31,15 @@ pub returns-in_err-end_source-2-clause-drove : goal.returns-in_err-end_source-2-
 returns-in_err-end_source-2-clause-drove g c =
     let left = g.S.PollSource.remaining c.poll_read.new.self in
     λ written.
-    drove-read 1 _ (g.C.Clock.reported c.args.clock.now) c.args.link.now c.end_source-then-count-eq0.new.link _ (prepend_known [] left) left written written _ _ (move-few c.from_residual-in_err-end_source-2.result)
-    ((rw c.in-Some.is at c.in-Ok.ensures.bytes) ∙ ap (λ n. prepend_known (take n c.poll_read.new.buffer) left) c.if-count-eq0.true) (c.end_source-then-count-eq0.ensures.drove [] left written (λ came long. refl))
+    drove-read 1 _ (g.C.Clock.reported c.args.clock.now) c.args.link.now c.end_source-then-count-eq0.new.link _ (prepend_known [] left) left written written _ _
+    (move-few c.from_residual-in_err-end_source-2.result)
+    ((rw c.in-Some.is at c.in-Ok.ensures.bytes) ∙ ap (λ n. prepend_known (take n c.poll_read.new.buffer) left) c.if-count-eq0.true)
+    (c.end_source-then-count-eq0.ensures.drove [] left written (λ came long. refl))
 
 pub returns-in_err-keep_read-clause-drove : goal.returns-in_err-keep_read-clause-drove
 returns-in_err-keep_read-clause-drove g c =
     let left = g.S.PollSource.remaining c.poll_read.new.self in
     λ written.
-    drove-read 1 _ (g.C.Clock.reported c.args.clock.now) c.args.link.now c.keep_read.new.link _ (prepend_known (take c.in-Some.count c.poll_read.new.buffer) left) left written written _ _ (move-few c.from_residual-in_err-keep_read.result)
+    drove-read 1 _ (g.C.Clock.reported c.args.clock.now) c.args.link.now c.keep_read.new.link _
+    (prepend_known (take c.in-Some.count c.poll_read.new.buffer) left) left written written _ _ (move-few c.from_residual-in_err-keep_read.result)
     (rw c.in-Some.is at c.in-Ok.ensures.bytes) (c.keep_read.ensures.drove left written)

@@ -18,17 +18,20 @@ returns-in-Ok-clause-log g c =
     let reported = g.C.Clock.reported c.args.clock.now in
     let link = c.args.link in
     let over = rw c.in-Ok.is at c.requires.driven in
-    let written : link.written ≡ core_position link.core = subst (λ slice. IsUpTo slice link.written (core_position link.core)) over.idle c.requires.held.up_to in
+    let written : link.written ≡ core_position link.core = subst (λ slice. IsUpTo slice link.written (core_position link.core)) over.idle c.requires.held.up_to
+    in
     λ left history.
     subst (ReportsAt history.means reported history.log c.stop.result link.written c.in-Ok.ending (read_end_of link.source)) (sym c.latest.ensures)
     (link-reports history.means reported link.core link.ended history.log c.in-Ok.ending (read_end_of link.source) c.stop.result link.written
-    (bare history.means reported link.core link.unwritten history.log over.idle history.follows.carried) history.follows.closed over.ended written (c.stop.ensures.value ∙ c.requires.held.stop))
+    (bare history.means reported link.core link.unwritten history.log over.idle history.follows.carried) history.follows.closed over.ended written
+    (c.stop.ensures.value ∙ c.requires.held.stop))
 
 pub returns-in-Ok-clause-of_heard : goal.returns-in-Ok-clause-of_heard
 returns-in-Ok-clause-of_heard g c =
     let link = c.args.link in
     let over = rw c.in-Ok.is at c.requires.driven in
-    λ left history. says-heard history.means (g.C.Clock.reported c.args.clock.now) link.core history.log (bare history.means (g.C.Clock.reported c.args.clock.now) link.core link.unwritten history.log over.idle history.follows.carried)
+    λ left history. says-heard history.means (g.C.Clock.reported c.args.clock.now) link.core history.log
+    (bare history.means (g.C.Clock.reported c.args.clock.now) link.core link.unwritten history.log over.idle history.follows.carried)
 
 pub returns-in-Ok-clause-bytes : goal.returns-in-Ok-clause-bytes
 returns-in-Ok-clause-bytes g c =
@@ -39,7 +42,8 @@ returns-in-Ok-clause-bytes g c =
     let taken : c.stop.result ≡ link.core.bytes = c.stop.ensures.value ∙ held.stop in
     λ left history.
     let few : c.stop.result ≤ length history.came = omega (arith, taken, history.follows.few) in (
-      writes-first history.given history.before history.after left history.came c.stop.result link.written (omega (arith, taken, written, held.within)) few history.read history.follows.wrote,
+      writes-first history.given history.before history.after left history.came c.stop.result link.written (omega (arith, taken, written, held.within)) few
+          history.read history.follows.wrote,
       length-take-le c.stop.result history.came few,
       hands-on (read_end_of link.source) history.given left c.stop.result history.came history.read
           (subst (λ n. IfSome (read_end_of link.source) (λ end. IsUnsent end (take n history.came) (drop n history.came))) (sym taken) history.follows.unsent),
@@ -51,7 +55,9 @@ returns-clause-broken g c =
     let link = c.args.link in
     let count = rw c.in-Err.is at c.requires.driven in
     λ left history. (
-      subst (λ written. IsCutOff history.means reported written history.log) (sym count) (cut-follows history.means reported link history.log history.came history.before history.after c.requires.held history.follows),
+      subst (λ written. IsCutOff history.means reported written history.log) (sym count)
+          (cut-follows history.means reported link history.log history.came history.before history.after c.requires.held history.follows),
       subst (WritesFirst history.given history.before history.after history.came) (sym count)
-          (writes-came link history.given history.before history.after left history.came c.requires.held history.follows.few history.read history.follows.wrote),
+          (writes-came link history.given history.before history.after left history.came c.requires.held history.follows.few history.read
+          history.follows.wrote),
     )

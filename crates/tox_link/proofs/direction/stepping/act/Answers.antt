@@ -10,13 +10,19 @@ use Rattle.tox_link.proofs.direction.stepping.act.Goals as goal
 
 pub read_or_wait-requires-clause-says : goal.read_or_wait-requires-clause-says
 read_or_wait-requires-clause-says g c =
-    let asked = c.ask-act in
-    (asked.ensures.reported, says-asked c.args.link.now.core asked.new.link.core asked.new.link.core.latest asked.result (Some c.in-WaitUntil.instant) asked.ensures.answered c.in-WaitUntil.is)
+    let asked = c.ask-act in (
+      asked.ensures.reported,
+      says-asked c.args.link.now.core asked.new.link.core asked.new.link.core.latest asked.result (Some c.in-WaitUntil.instant)
+          asked.ensures.answered c.in-WaitUntil.is,
+    )
 
 pub read_or_wait-requires-in-WaitForInput-clause-says : goal.read_or_wait-requires-in-WaitForInput-clause-says
 read_or_wait-requires-in-WaitForInput-clause-says g c =
-    let asked = c.ask-act in
-    (asked.ensures.reported, says-asked c.args.link.now.core asked.new.link.core asked.new.link.core.latest asked.result None asked.ensures.answered c.in-WaitForInput.is)
+    let asked = c.ask-act in (
+      asked.ensures.reported,
+      says-asked c.args.link.now.core asked.new.link.core asked.new.link.core.latest asked.result None asked.ensures.answered
+          c.in-WaitForInput.is,
+    )
 
 pub returns-in-Write-clause-drove : goal.returns-in-Write-clause-drove
 returns-in-Write-clause-drove g c =
@@ -33,7 +39,8 @@ returns-in-WaitUntil-clause-drove g c =
     let waited = c.read_or_wait in
     λ written.
     drove-less _ _ reported c.args.link.now waited.new.link _ _ (omega arith)
-    (drove-then reported _ _ c.args.link.now asked.new.link waited.new.link _ _ _ (asked.ensures.drove (g.S.PollSource.remaining c.args.source.now) written (g.N.Notes.events c.args.notes.now)) (waited.ensures.drove written))
+    (drove-then reported _ _ c.args.link.now asked.new.link waited.new.link _ _ _
+    (asked.ensures.drove (g.S.PollSource.remaining c.args.source.now) written (g.N.Notes.events c.args.notes.now)) (waited.ensures.drove written))
 
 pub returns-in-WaitForInput-clause-drove : goal.returns-in-WaitForInput-clause-drove
 returns-in-WaitForInput-clause-drove g c =
@@ -42,7 +49,8 @@ returns-in-WaitForInput-clause-drove g c =
     let waited = c.read_or_wait-in-WaitForInput in
     λ written.
     drove-less _ _ reported c.args.link.now waited.new.link _ _ (omega arith)
-    (drove-then reported _ _ c.args.link.now asked.new.link waited.new.link _ _ _ (asked.ensures.drove (g.S.PollSource.remaining c.args.source.now) written (g.N.Notes.events c.args.notes.now)) (waited.ensures.drove written))
+    (drove-then reported _ _ c.args.link.now asked.new.link waited.new.link _ _ _
+    (asked.ensures.drove (g.S.PollSource.remaining c.args.source.now) written (g.N.Notes.events c.args.notes.now)) (waited.ensures.drove written))
 
 pub returns-in-End-clause-drove : goal.returns-in-End-clause-drove
 returns-in-End-clause-drove g c =
@@ -58,5 +66,6 @@ returns-in-End-clause-progress g c =
     λ waits due. record {
       idle = ap (λ (link : PolledLink). link.unwritten) asked.ensures.same ∙ ap (λ (act : Act). begun_by act asked.new.link.core.latest) c.in-End.is;
       ended = subst (λ ended. HasEnded reported asked.new.link.core ended c.in-End.ending) (sym (ap (λ (link : PolledLink). link.ended) asked.ensures.same))
-          (ended-so reported c.args.link.now.core asked.new.link.core asked.new.link.core.latest asked.result c.in-End.ending c.args.link.now.ended asked.ensures.answered c.in-End.is asked.ensures.reported c.requires.ready.held.going);
+          (ended-so reported c.args.link.now.core asked.new.link.core asked.new.link.core.latest asked.result c.in-End.ending c.args.link.now.ended
+          asked.ensures.answered c.in-End.is asked.ensures.reported c.requires.ready.held.going);
     }

@@ -8,7 +8,12 @@ use Rattle.tox_link.proofs.Logs.{events-none}
 use Rattle.tox_link.proofs.direction.writing_on.write_on.Goals as goal
 
 pub returns-then-link-unwritten-clause-wrote : goal.returns-then-link-unwritten-clause-wrote
-returns-then-link-unwritten-clause-wrote g c = ([], events-none (g.N.Notes.events c.args.notes.now), c.write_part.ensures.wrote, omega (arith, c.write_part.ensures.on))
+returns-then-link-unwritten-clause-wrote g c = (
+  [],
+  events-none (g.N.Notes.events c.args.notes.now),
+  c.write_part.ensures.wrote,
+  omega (arith, c.write_part.ensures.on),
+)
 
 pub returns-in-Ok-clause-held : goal.returns-in-Ok-clause-held
 returns-in-Ok-clause-held g c =
@@ -22,7 +27,8 @@ returns-in-Ok-clause-wrote g c =
     let same = ap (λ (link : PolledLink). link.written) c.in-Ok.ensures.done in (
       more,
       c.in-Ok.ensures.noted,
-      subst (λ (link : PolledLink). WritesOn c.args.link.now known more link known) (sym c.in-Ok.ensures.done) (writes-noted c.args.link.now unwritten known c.requires.writing),
+      subst (λ (link : PolledLink). WritesOn c.args.link.now known more link known) (sym c.in-Ok.ensures.done)
+          (writes-noted c.args.link.now unwritten known c.requires.writing),
       omega (arith, same),
     )
 

@@ -16,5 +16,6 @@ overflow_add-link-in-Ok-Some g c =
 
 pub returns-in-Ok-Some-clause-wrote : goal.returns-in-Ok-Some-clause-wrote
 returns-in-Ok-Some-clause-wrote g c =
-    writes-part c.args.link.now (g.W.PollSink.written c.args.sink.now) (g.W.PollSink.written c.poll_write.new.self) c.front_of-front.result.now c.in-Ok-Some.count
+    writes-part c.args.link.now (g.W.PollSink.written c.args.sink.now) (g.W.PollSink.written c.poll_write.new.self) c.front_of-front.result.now
+    c.in-Ok-Some.count
     (rw c.in-Ok-Some.field-0-is at c.in-Ok-Some.ensures.count) c.front_of-front.ensures.bytes (rw c.in-Ok-Some.field-0-is at c.in-Ok-Some.ensures.bytes)

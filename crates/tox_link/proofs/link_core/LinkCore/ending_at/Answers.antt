@@ -10,7 +10,8 @@ use Rattle.tox_link.proofs.link_core.LinkCore.ending_at.Goals as goal
 pub returns-in_err-deadline-clause-settled : goal.returns-in_err-deadline-clause-settled
 returns-in_err-deadline-clause-settled c =
     subst (λ core. Settled core core c.args.now) c.self.view_is
-    (settled-still (core_view c.self.inside) c.args.now c.self.invariant.core (subst IsEmptied (sym c.self.view_is) c.requires.emptied) (ap (λ core. core.end) c.self.view_is ∙ c.requires.end)
+    (settled-still (core_view c.self.inside) c.args.now c.self.invariant.core (subst IsEmptied (sym c.self.view_is) c.requires.emptied)
+    (ap (λ core. core.end) c.self.view_is ∙ c.requires.end)
     (λ idle finished. absurd (let known = c.in_default.ensures.known.1 (idle, inl finished) in cc))
     (subst (IsBeforeDeadline c.args.now) (sym c.in_err-deadline.was ∙ c.self.invariant.deadline) tt)
     (c.in_default.ensures.unended refl))
@@ -18,7 +19,8 @@ returns-in_err-deadline-clause-settled c =
 pub returns-then-lt-clause-settled : goal.returns-then-lt-clause-settled
 returns-then-lt-clause-settled c =
     subst (λ core. Settled core core c.args.now) c.self.view_is
-    (settled-still (core_view c.self.inside) c.args.now c.self.invariant.core (subst IsEmptied (sym c.self.view_is) c.requires.emptied) (ap (λ core. core.end) c.self.view_is ∙ c.requires.end)
+    (settled-still (core_view c.self.inside) c.args.now c.self.invariant.core (subst IsEmptied (sym c.self.view_is) c.requires.emptied)
+    (ap (λ core. core.end) c.self.view_is ∙ c.requires.end)
     (λ idle finished. absurd (let known = c.in_default.ensures.known.1 (idle, inl finished) in cc))
     (subst (IsBeforeDeadline c.args.now) (sym c.in_ok-deadline.was ∙ c.self.invariant.deadline) (search rules))
     (c.in_default.ensures.unended refl))
@@ -29,7 +31,8 @@ returns-clause-settled c =
     rw c.quiet.ensures.ended
     (subst (λ old. Settled old (after_quiet core c.quiet.result) c.args.now) c.self.view_is
     (settled-quiet core c.quiet.result (subst IsEmptied (sym c.self.view_is) c.requires.emptied) (ap (λ core. core.end) c.self.view_is ∙ c.requires.end)
-    (unknown-runner core (sym c.in_default.ensures.value)) c.args.now c.in_ok-deadline.deadline (sym c.self.invariant.deadline ∙ c.in_ok-deadline.was) (search rules)
+    (unknown-runner core (sym c.in_default.ensures.value)) c.args.now c.in_ok-deadline.deadline (sym c.self.invariant.deadline ∙ c.in_ok-deadline.was)
+    (search rules)
     c.quiet.ensures.deadline))
 
 pub returns-in-Some-clause-only : goal.returns-in-Some-clause-only

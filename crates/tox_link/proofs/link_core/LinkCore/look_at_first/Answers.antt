@@ -11,4 +11,5 @@ returns-clause-looked c =
     let cuts : Cuts c.self.inside.runner c.next_cut-self-inside.new.self c.next_cut-self-inside.result
     = cuts_of c.self.inside.runner c.next_cut-self-inside.new.self c.next_cut-self-inside.result reported.some reported.none reported.idle reported.kept in
     subst (λ old. Looked old (after_cut (core_view c.self.inside) c.next_cut-self-inside.new.self c.next_cut-self-inside.result)) c.self.view_is
-    (looked-cut (core_view c.self.inside) c.next_cut-self-inside.new.self c.next_cut-self-inside.result cuts (ap (λ core. core.found) c.self.view_is ∙ c.requires) (sym c.if-is_idle.ensures.value))
+    (looked-cut (core_view c.self.inside) c.next_cut-self-inside.new.self c.next_cut-self-inside.result cuts
+    (ap (λ core. core.found) c.self.view_is ∙ c.requires) (sym c.if-is_idle.ensures.value))

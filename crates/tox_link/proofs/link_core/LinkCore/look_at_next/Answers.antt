@@ -3,7 +3,8 @@ use Rattle.std.proofs.Common.{◌≡◌, Err, ap, sym, subst, ◌∙◌, arith}
 use Rattle.tox_plan.specs.RunnerView.{offer_answer}
 use Rattle.tox_link.specs.link_core.Core.{CoreView, Looked}
 use Rattle.tox_link.specs.link_core.CoreInside.{core_view}
-use Rattle.tox_link.proofs.Looks.{Cuts, Offers, cuts_of, after_cut, after_offer, after_refusal, looked-both, looked-offer, looked-cut, looked-refusal, taken-running, IsCore-after_refusal}
+use Rattle.tox_link.proofs.Looks.{Cuts, Offers, cuts_of, after_cut, after_offer, after_refusal, looked-both, looked-offer, looked-cut, looked-refusal}
+use Rattle.tox_link.proofs.Looks.{taken-running, IsCore-after_refusal}
 use Rattle.tox_link.proofs.link_core.LinkCore.look_at_next.Goals as goal
 
 -- what the refused offer was answered
@@ -13,7 +14,8 @@ refused c = sym c.in_default-offer.ensures.answer
 pub invariant_of-self-in_default-offer : goal.invariant_of-self-in_default-offer
 invariant_of-self-in_default-offer c =
     rw c.in_default-offer.ensures.err (record {
-      core = IsCore-after_refusal (core_view c.self.inside) c.in-Some.piece c.take_front.new.ring.items c.in_default-offer.field-0 c.self.invariant.core (ap (λ core. core.runner.idle) c.self.view_is ∙ c.requires.drained.idle) c.in-Some.ensures.items (refused c);
+      core = IsCore-after_refusal (core_view c.self.inside) c.in-Some.piece c.take_front.new.ring.items c.in_default-offer.field-0 c.self.invariant.core
+          (ap (λ core. core.runner.idle) c.self.view_is ∙ c.requires.drained.idle) c.in-Some.ensures.items (refused c);
       room = omega (arith, c.self.invariant.room, c.take_front.ensures.capacity);
       deadline = c.self.invariant.deadline;
     })
@@ -22,7 +24,8 @@ pub returns-in_default-offer-clause-looked : goal.returns-in_default-offer-claus
 returns-in_default-offer-clause-looked c =
     rw c.in_default-offer.ensures.err
     (subst (λ old. Looked old (after_refusal (core_view c.self.inside) c.in-Some.piece c.take_front.new.ring.items c.in_default-offer.field-0)) c.self.view_is
-    (looked-refusal (core_view c.self.inside) c.in-Some.piece c.take_front.new.ring.items c.in_default-offer.field-0 c.self.invariant.core (ap (λ core. core.runner.idle) c.self.view_is ∙ c.requires.drained.idle) c.in-Some.ensures.items (refused c)))
+    (looked-refusal (core_view c.self.inside) c.in-Some.piece c.take_front.new.ring.items c.in_default-offer.field-0 c.self.invariant.core
+    (ap (λ core. core.runner.idle) c.self.view_is ∙ c.requires.drained.idle) c.in-Some.ensures.items (refused c)))
 
 -- the runner took the piece
 offers : (c : goal.After-self-1) → Offers (core_view c.self.inside) c.offer.new.self c.in-Some.piece c.take_front.new.ring.items

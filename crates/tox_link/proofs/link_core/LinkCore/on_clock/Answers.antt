@@ -31,7 +31,8 @@ returns-clause-answered c =
       given_up = λ unknown.
           let looked : GivesUp (record core { latest = c.args.now }) c.look.new.self = c.look.ensures.looked.given_up (c.answer.ensures.unknown unknown) in
           let gives : GivesUp core c.look.new.self = record { first = looked.first; lens = looked.lens; start = looked.start; before = looked.before } in
-          subst (λ old. GivesUp old c.answer.new.self) c.self.view_is (gives-both core c.look.new.self c.answer.new.self gives (c.answer.ensures.answered.given_up unknown));
+          subst (λ old. GivesUp old c.answer.new.self) c.self.view_is (gives-both core c.look.new.self c.answer.new.self gives
+          (c.answer.ensures.answered.given_up unknown));
       holds = search rules;
       latest = search rules;
     }

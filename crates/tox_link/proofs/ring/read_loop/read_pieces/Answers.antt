@@ -16,7 +16,11 @@ returns-then-count-total-clause-bytes g c =
     (given, prepend_more _ _ _ _ _ c.loop-nth.invariant.bytes c.in-Ok.ensures.bytes, more)
 
 pub returns-in_default-with_bytes-clause-bytes : goal.returns-in_default-with_bytes-clause-bytes
-returns-in_default-with_bytes-clause-bytes g c = (take c.in-Ok.count c.read-answer.new.buffer, prepend_more _ _ _ _ _ c.loop-nth.invariant.bytes c.in-Ok.ensures.bytes, tt)
+returns-in_default-with_bytes-clause-bytes g c = (
+  take c.in-Ok.count c.read-answer.new.buffer,
+  prepend_more _ _ _ _ _ c.loop-nth.invariant.bytes c.in-Ok.ensures.bytes,
+  tt,
+)
 
 pub loop-nth-preserved : goal.loop-nth-preserved
 loop-nth-preserved g c =

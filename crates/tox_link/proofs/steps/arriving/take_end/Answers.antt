@@ -42,4 +42,5 @@ carries-on reported before after old new now None later fits says going hears is
 pub returns-clause-carried : goal.returns-clause-carried
 returns-clause-carried g c =
     carries-on (g.C.Clock.reported c.args.clock.now) _ _ c.args.core.now c.on_end.new.self c.reading-now.result c.ending-ending.result
-    (omega (arith, c.reading-now.ensures.later, c.latest.ensures)) c.reading-now.ensures.bound c.reading-now.ensures.reported c.requires.first c.on_end.ensures c.ending-ending.ensures.value c.ending-ending.ensures.only c.in_ok-note_end.ensures.noted
+    (omega (arith, c.reading-now.ensures.later, c.latest.ensures)) c.reading-now.ensures.bound c.reading-now.ensures.reported c.requires.first c.on_end.ensures
+    c.ending-ending.ensures.value c.ending-ending.ensures.only c.in_ok-note_end.ensures.noted

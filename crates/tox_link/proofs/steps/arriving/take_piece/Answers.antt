@@ -11,7 +11,9 @@ returns-clause-carried g c =
       more = Piece c.len-len.result c.reading-instant.result ∷ [];
       noted = c.in_ok-note.ensures.noted;
       keeps = taken-carried (g.C.Clock.reported c.args.clock.now) c.args.core.now c.on_piece.new.self c.len-len.result c.reading-instant.result
-          (omega (arith, c.requires.room.0, c.on_piece.ensures.small)) c.requires.goes_on.1 (omega (arith, c.reading-instant.ensures.later, c.latest.ensures)) c.reading-instant.ensures.bound c.reading-instant.ensures.reported
-          (omega (arith, c.len-len.ensures, c.requires.fits.0)) (omega (arith, c.len-len.ensures, c.requires.small)) (omega (arith, c.len-len.ensures, c.requires.fits.1)) c.requires.goes_on.0 hears.taken hears.output;
+          (omega (arith, c.requires.room.0, c.on_piece.ensures.small)) c.requires.goes_on.1 (omega (arith, c.reading-instant.ensures.later, c.latest.ensures))
+          c.reading-instant.ensures.bound c.reading-instant.ensures.reported
+          (omega (arith, c.len-len.ensures, c.requires.fits.0)) (omega (arith, c.len-len.ensures, c.requires.small))
+          (omega (arith, c.len-len.ensures, c.requires.fits.1)) c.requires.goes_on.0 hears.taken hears.output;
       end = refl;
     }

@@ -7,5 +7,6 @@ use Rattle.tox_log.proofs.files.entry_text.write_header.Goals as goal
 pub returns : goal.returns
 unfolding entry_text
 returns c =
-    let written = rw c.new-printer.ensures.writer at (Writes-finished c.finish.result _ c.new-printer.ensures.empty c.in_ok-print_header.ensures c.finish.ensures) in
+    let written = rw c.new-printer.ensures.writer at (Writes-finished c.finish.result _ c.new-printer.ensures.empty c.in_ok-print_header.ensures
+    c.finish.ensures) in
     search (rules, written)

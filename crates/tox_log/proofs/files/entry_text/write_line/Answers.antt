@@ -5,5 +5,6 @@ use Rattle.tox_log.proofs.files.entry_text.write_line.Goals as goal
 
 pub returns : goal.returns
 returns c =
-    let written = rw c.new-printer.ensures.writer at (Writes-finished c.finish.result _ c.new-printer.ensures.empty c.in_ok-print_line.ensures c.finish.ensures) in
+    let written = rw c.new-printer.ensures.writer at (Writes-finished c.finish.result _ c.new-printer.ensures.empty c.in_ok-print_line.ensures c.finish.ensures)
+    in
     search (rules, written)

@@ -31,7 +31,8 @@ one-more values each new [] more value kept one over stays = here (eq-or-lt_of_l
 
 pub returns : goal.returns
 returns c = λ values few kept.
-    let each = one-more values c.args.self.now.values.items c.keep.new.self.values.items c.args.self.now.buckets.items c.keep.new.self.buckets.items c.args.value (kept.each, kept.many)
+    let each = one-more values c.args.self.now.values.items c.keep.new.self.values.items c.args.self.now.buckets.items c.keep.new.self.buckets.items
+    c.args.value (kept.each, kept.many)
     c.in_ok-keep.ensures.one c.in_ok-keep.ensures.over c.in_ok-keep.ensures.stays in
     let count = length-append values (c.args.value ∷ []) in
     record {

@@ -28,6 +28,9 @@ returns-in-None c =
     let lines = c.args.self.now in record {
       part = waiting lines;
       given = sym (append-nil (waiting lines)) ∙ ap (λ rest. waiting lines ++ rest) (sym (range-none lines.block.items lines.stop));
-      line = subst (λ b. (text : List ℕ) → KeepsText lines.line.items lines.long text → KeepsText c.add-in-None.new.line.items c.add-in-None.new.long (text ++ slice_range b lines.start lines.stop)) c.deref.ensures.value c.add-in-None.ensures;
-      unended = subst (λ b. Lacks 10 (slice_range b lines.start lines.stop)) c.deref.ensures.value (lacks-nowhere 10 (slice_range c.deref.result.now lines.start lines.stop) c.in-None.ensures);
+      line = subst (λ b. (text : List ℕ) → KeepsText lines.line.items lines.long text
+          → KeepsText c.add-in-None.new.line.items c.add-in-None.new.long (text ++ slice_range b lines.start lines.stop)) c.deref.ensures.value
+          c.add-in-None.ensures;
+      unended = subst (λ b. Lacks 10 (slice_range b lines.start lines.stop)) c.deref.ensures.value
+          (lacks-nowhere 10 (slice_range c.deref.result.now lines.start lines.stop) c.in-None.ensures);
     }

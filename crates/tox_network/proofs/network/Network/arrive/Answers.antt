@@ -6,9 +6,11 @@ use Rattle.tox_network.proofs.network.Network.arrive.Goals as goal
 
 pub invariant_of-self : goal.invariant_of-self
 invariant_of-self c =
-    (arrive_made (network_view c.self.inside) _ c.pop-item.result c.self.invariant c.pop-item.ensures.next (search rules) c.push.ensures.pushed refl refl c.push.ensures.room c.pop-item.ensures.arrived refl).0
+    (arrive_made (network_view c.self.inside) _ c.pop-item.result c.self.invariant c.pop-item.ensures.next (search rules) c.push.ensures.pushed refl refl
+    c.push.ensures.room c.pop-item.ensures.arrived refl).0
 
 pub returns-clause-moved : goal.returns-clause-moved
 returns-clause-moved c = λ _.
     step_from c.self.view_is
-    (arrive_made (network_view c.self.inside) _ c.pop-item.result c.self.invariant c.pop-item.ensures.next (search rules) c.push.ensures.pushed refl refl c.push.ensures.room c.pop-item.ensures.arrived refl)
+    (arrive_made (network_view c.self.inside) _ c.pop-item.result c.self.invariant c.pop-item.ensures.next (search rules) c.push.ensures.pushed refl refl
+    c.push.ensures.room c.pop-item.ensures.arrived refl)

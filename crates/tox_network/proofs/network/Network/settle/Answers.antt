@@ -18,7 +18,8 @@ loop-other-preserved c =
     let rest = iter_rest c.loop-other.listed in
     let next = next_listed c.loop-other.listed c.next.new.self c.next.result c.next.ensures.steps in
     let made = some_and (turn mid.cap c.copied.result (state_of mid)) (λ move. IsStep move mid c.turn.new.self) c.in_ok-turn.ensures.made in
-    let here : turn mid.cap (slice_get rest 0) (state_of mid) ≡ Some made.0 = ap (λ one. turn mid.cap one (state_of mid)) (sym (c.copied.ensures ∙ next.0)) ∙ made.1 in
+    let here : turn mid.cap (slice_get rest 0) (state_of mid) ≡ Some made.0 = ap (λ one. turn mid.cap one (state_of mid)) (sym (c.copied.ensures ∙ next.0))
+    ∙ made.1 in
     let more = settles_more c.args.moves.now c.args.self.now mid c.turn.new.self rest c.loop-other.invariant.0 c.loop-other.invariant.1 made.0 here made.2 in
     (more.0, next.1 ∙ more.1)
 
@@ -28,7 +29,9 @@ returns-in_err-turn-clause-memory c =
     let rest = iter_rest c.loop-other.listed in
     let next = next_listed c.loop-other.listed c.next.new.self c.next.result c.next.ensures.steps in
     let refused = c.in_err-turn.ensures.memory in
-    let here : turn mid.cap (slice_get rest 0) (state_of mid) ≡ Some Deliver = ap (λ one. turn mid.cap one (state_of mid)) (sym (c.copied.ensures ∙ next.0)) ∙ refused.1 in
-    let at = refused_at c.args.moves.now c.args.self.now mid c.turn.new.self rest c.loop-other.invariant.0 c.loop-other.invariant.1 c.in_err-turn.ensures.unchanged here refused.2 in
+    let here : turn mid.cap (slice_get rest 0) (state_of mid) ≡ Some Deliver = ap (λ one. turn mid.cap one (state_of mid)) (sym (c.copied.ensures ∙ next.0))
+    ∙ refused.1 in
+    let at = refused_at c.args.moves.now c.args.self.now mid c.turn.new.self rest c.loop-other.invariant.0 c.loop-other.invariant.1
+    c.in_err-turn.ensures.unchanged here refused.2 in
     let p = err_from_is_err_and c.from_residual.result c.from_residual.ensures.1 in
     rw (p.1, p.2) (refused.0, at)

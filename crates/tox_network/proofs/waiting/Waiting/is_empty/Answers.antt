@@ -7,5 +7,6 @@ use Rattle.tox_network.proofs.waiting.Waiting.is_empty.Goals as goal
 pub returns-else-self : goal.returns-else-self
 returns-else-self c = (
   λ reported. absurd (c.if-self.false (eqb-true _ _ reported)),
-  λ none. absurd (c.if-self.false (all_entered c.self.inside.items.now c.self.inside.entered c.self.inside.quiet c.self.invariant (ap (λ a. a.waiting) c.self.view_is ∙ none))),
+  λ none. absurd (c.if-self.false (all_entered c.self.inside.items.now c.self.inside.entered c.self.inside.quiet c.self.invariant
+      (ap (λ a. a.waiting) c.self.view_is ∙ none))),
 )

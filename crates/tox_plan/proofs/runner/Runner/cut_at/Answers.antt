@@ -8,7 +8,8 @@ use Rattle.tox_plan.proofs.runner.Runner.cut_at.Goals as goal
 pub returns-in_err-cut-clause-none : goal.returns-in_err-cut-clause-none
 returns-in_err-cut-clause-none c =
     let unfound : c.look.new.self.lookahead ≡ None = ap (λ runner. runner.lookahead) (sym c.self.view_is) ∙ c.in_err-cut.was in
-    let none : HasNoChunk (to_come c.look.new.self (Quiet ∷ [])) × HasNoChunk (to_come c.args.self.now (Quiet ∷ [])) = look-none c.args.self.now c.look.new.self (subst IsRunning c.self.view_is c.self.invariant) c.look.ensures.found unfound c.look.ensures.to_come in
+    let none : HasNoChunk (to_come c.look.new.self (Quiet ∷ [])) × HasNoChunk (to_come c.args.self.now (Quiet ∷ [])) =
+    look-none c.args.self.now c.look.new.self (subst IsRunning c.self.view_is c.self.invariant) c.look.ensures.found unfound c.look.ensures.to_come in
     rw c.from_residual.ensures
     (record {
       same = c.look.ensures.to_come;

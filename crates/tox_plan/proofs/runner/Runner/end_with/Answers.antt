@@ -5,4 +5,5 @@ use Rattle.tox_plan.proofs.Deadlines.{past-deadline}
 use Rattle.tox_plan.proofs.runner.Runner.end_with.Goals as goal
 
 pub returns-clause-deadline : goal.returns-clause-deadline
-returns-clause-deadline c = rw (← c.self.view_is) (past-deadline (runner_view c.self.inside) c.self.invariant (ap (λ runner. runner.idle) c.self.view_is ∙ c.requires))
+returns-clause-deadline c = rw (← c.self.view_is) (past-deadline (runner_view c.self.inside) c.self.invariant
+    (ap (λ runner. runner.idle) c.self.view_is ∙ c.requires))

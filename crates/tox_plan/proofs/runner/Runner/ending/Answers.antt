@@ -7,7 +7,8 @@ use Rattle.tox_plan.proofs.Unended.{unended-runner}
 use Rattle.tox_plan.proofs.runner.Runner.ending.Goals as goal
 
 pub returns-then-is_idle-clause-known : goal.returns-then-is_idle-clause-known
-returns-then-is_idle-clause-known c = rw (c.ending.ensures, ← c.self.view_is) (ended_exactly (runner_view c.self.inside) c.self.invariant (sym c.is_idle.ensures ∙ c.if-is_idle.true))
+returns-then-is_idle-clause-known c = rw (c.ending.ensures, ← c.self.view_is)
+    (ended_exactly (runner_view c.self.inside) c.self.invariant (sym c.is_idle.ensures ∙ c.if-is_idle.true))
 
 pub returns-then-is_idle-clause-unended : goal.returns-then-is_idle-clause-unended
 returns-then-is_idle-clause-unended c =

@@ -10,4 +10,5 @@ invariant_of-self c =
 
 pub returns-clause-cut : goal.returns-clause-cut
 returns-clause-cut c =
-    rw (← c.self.view_is) (IsOneCut-after_given (runner_view c.self.inside) c.args.cut.now c.self.invariant (ap (λ runner. runner.lookahead) c.self.view_is ∙ c.requires))
+    rw (← c.self.view_is) (IsOneCut-after_given (runner_view c.self.inside) c.args.cut.now c.self.invariant
+    (ap (λ runner. runner.lookahead) c.self.view_is ∙ c.requires))

@@ -9,4 +9,5 @@ use Rattle.tox_plan.proofs.runner.Runner.is_idle.Goals as goal
 pub returns-clause-drained : goal.returns-clause-drained
 returns-clause-drained c =
     let P : RunnerView → Type 0 = λ runner. runner.idle ≡ true → HasNoChunk (to_come runner (Quiet ∷ [])) in
-    subst P c.self.view_is (λ idle. read-no_chunk (runner_view c.self.inside) c.self.invariant (c.self.invariant.idle idle) (idle-unfound (runner_view c.self.inside) c.self.invariant idle))
+    subst P c.self.view_is (λ idle. read-no_chunk (runner_view c.self.inside) c.self.invariant (c.self.invariant.idle idle)
+    (idle-unfound (runner_view c.self.inside) c.self.invariant idle))

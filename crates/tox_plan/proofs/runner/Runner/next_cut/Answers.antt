@@ -11,7 +11,8 @@ use Rattle.tox_plan.proofs.runner.Runner.next_cut.Goals as goal
 
 pub returns-in_err-slice-clause-given : goal.returns-in_err-slice-clause-given
 returns-in_err-slice-clause-given c =
-    let nothing : GivesNoCut c.args.self.now c.cut.new.self = subst (λ cut. IfNone cut (GivesNoCut c.args.self.now c.cut.new.self)) c.in_err-slice.was c.cut.ensures.idle in
+    let nothing : GivesNoCut c.args.self.now c.cut.new.self = subst (λ cut. IfNone cut (GivesNoCut c.args.self.now c.cut.new.self)) c.in_err-slice.was
+    c.cut.ensures.idle in
     rw c.from_residual.ensures
     (record {
       goes_on = given-none c.args.self.now c.cut.new.self c.cut.ensures.kept.drawing nothing.same;
@@ -27,18 +28,21 @@ loop-stop-init c = record {
   stands = c.in_ok-slice.ensures.some.0.stands;
   busy = c.in_ok-slice.ensures.some.1;
   kept = c.cut.ensures.kept;
-  rounds = one-round (length c.args.self.now.cursors) c.args.self.now.turns c.cut.new.self.turns c.args.self.now.cuts c.cut.new.self.cuts c.cut.ensures.turns c.in_ok-slice.ensures.some.0.counted;
+  rounds = one-round (length c.args.self.now.cursors) c.args.self.now.turns c.cut.new.self.turns c.args.self.now.cuts c.cut.new.self.cuts c.cut.ensures.turns
+      c.in_ok-slice.ensures.some.0.counted;
 }
 
 pub loop-stop-preserved : goal.loop-stop-preserved
 loop-stop-preserved c =
     let on = c.loop-stop.invariant in record {
-      cut = IsCut-longer c.args.self.now c.loop-stop.self c.cut_at.new.self c.loop-stop.slice c.in-Some.stop on.cut on.stands on.kept.piece c.in-Some.ensures.some;
+      cut = IsCut-longer c.args.self.now c.loop-stop.self c.cut_at.new.self c.loop-stop.slice c.in-Some.stop on.cut on.stands on.kept.piece
+          c.in-Some.ensures.some;
       begins = on.begins;
       stands = c.in-Some.ensures.some.stands;
       busy = c.cut_at.ensures.idle ∙ on.busy;
       kept = keeps-both c.args.self.now c.loop-stop.self c.cut_at.new.self on.kept c.cut_at.ensures.kept;
-      rounds = more-rounds (length c.args.self.now.cursors) (length c.loop-stop.self.cursors) c.args.self.now.turns c.loop-stop.self.turns c.cut_at.new.self.turns c.args.self.now.cuts c.loop-stop.self.cuts c.cut_at.new.self.cuts
+      rounds = more-rounds (length c.args.self.now.cursors) (length c.loop-stop.self.cursors) c.args.self.now.turns c.loop-stop.self.turns
+          c.cut_at.new.self.turns c.args.self.now.cuts c.loop-stop.self.cuts c.cut_at.new.self.cuts
           on.kept.cursors on.rounds c.cut_at.ensures.turns c.in-Some.ensures.some.counted;
     }
 

@@ -13,20 +13,24 @@ pub invariant_of-self : goal.invariant_of-self
 invariant_of-self c =
     rw c.after_offer-self-inside.ensures
     (IsRunning-after_offer (runner_view c.self.inside) c.args.len c.args.instant c.self.invariant
-    (ap (λ runner. runner.idle) c.self.view_is ∙ c.requires) (sym c.ending.ensures ∙ none_of c.ending.result (sym c.is_some.ensures ∙ c.in_ok-with_piece.ensures.bounds.3))
+    (ap (λ runner. runner.idle) c.self.view_is ∙ c.requires) (sym c.ending.ensures
+    ∙ none_of c.ending.result (sym c.is_some.ensures ∙ c.in_ok-with_piece.ensures.bounds.3))
     c.in_ok-with_piece.ensures.bounds.1 (omega (arith, c.self.invariant.few, c.in_ok-with_piece.ensures.bounds.2)))
 
 pub returns-clause-to_come : goal.returns-clause-to_come
 returns-clause-to_come c =
     rw (c.after_offer-self-inside.ensures, ← c.self.view_is)
     (to_come-after_offer (runner_view c.self.inside) c.args.len c.args.instant c.self.invariant
-    (ap (λ runner. runner.idle) c.self.view_is ∙ c.requires) (sym c.ending.ensures ∙ none_of c.ending.result (sym c.is_some.ensures ∙ c.in_ok-with_piece.ensures.bounds.3))
+    (ap (λ runner. runner.idle) c.self.view_is ∙ c.requires) (sym c.ending.ensures
+    ∙ none_of c.ending.result (sym c.is_some.ensures ∙ c.in_ok-with_piece.ensures.bounds.3))
     c.in_ok-with_piece.ensures.bounds.1)
 
 pub returns-clause-given : goal.returns-clause-given
-returns-clause-given c = given-offer c.args.self.now _ (as_chunk (next_piece c.args.self.now c.args.len c.args.instant)) (ap (λ runner. runner.drawing) c.self.view_is) (returns-clause-to_come c)
+returns-clause-given c = given-offer c.args.self.now _ (as_chunk (next_piece c.args.self.now c.args.len c.args.instant))
+    (ap (λ runner. runner.drawing) c.self.view_is) (returns-clause-to_come c)
 
 pub returns-clause-unread : goal.returns-clause-unread
 returns-clause-unread c =
     sym (drained-at _ c.self.inside.cursors.items c.self.inside.piece
-    (idle-drained (runner_view c.self.inside) c.self.invariant (ap (λ runner. runner.idle) c.self.view_is ∙ c.requires) (sym c.ending.ensures ∙ none_of c.ending.result (sym c.is_some.ensures ∙ c.in_ok-with_piece.ensures.bounds.3))))
+    (idle-drained (runner_view c.self.inside) c.self.invariant (ap (λ runner. runner.idle) c.self.view_is ∙ c.requires)
+    (sym c.ending.ensures ∙ none_of c.ending.result (sym c.is_some.ensures ∙ c.in_ok-with_piece.ensures.bounds.3))))

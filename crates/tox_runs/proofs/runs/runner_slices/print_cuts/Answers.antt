@@ -18,7 +18,8 @@ loop-slice-preserved g c =
       latest = next.kept.latest ∙ on.latest;
       printed = λ arrived items of.
           PrintsDownTo-then _ (on.printed arrived items of)
-          (text_to_come-cut arrived c.args.piece.now c.loop-slice.runner c.next_cut.new.self slice items of offered next.kept.piece next.some.cut next.some.begins next.some.stands next.some.ends)
+          (text_to_come-cut arrived c.args.piece.now c.loop-slice.runner c.next_cut.new.self slice items of offered next.kept.piece next.some.cut
+          next.some.begins next.some.stands next.some.ends)
           (rw line at c.in_ok-print_lent.ensures);
     }
 
@@ -31,7 +32,8 @@ returns-in_err-print_lent-clause-prints g c =
     let line = line_of_lent c.args.piece.now slice c.lend.result c.lend.ensures in
     λ arrived items of.
     PrintsDownTo-broken _ c.from_residual.ensures.1 (on.printed arrived items of)
-    (text_to_come-cut arrived c.args.piece.now c.loop-slice.runner c.next_cut.new.self slice items of offered next.kept.piece next.some.cut next.some.begins next.some.stands next.some.ends)
+    (text_to_come-cut arrived c.args.piece.now c.loop-slice.runner c.next_cut.new.self slice items of offered next.kept.piece next.some.cut next.some.begins
+    next.some.stands next.some.ends)
     (rw line at c.in_err-print_lent.ensures)
 
 pub loop-slice-init : goal.loop-slice-init

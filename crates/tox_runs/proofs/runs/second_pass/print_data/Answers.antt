@@ -12,7 +12,8 @@ returns-in_err-print_piece-clause-prints g c =
     λ at. PrintsDownTo-failed c.from_residual.ensures.1 (
     subst (λ p. (at : IsAtPiece (g.S.SliceSource.stands c.args.source.now) p)
     → PrintsDownTo g.W.Sink {A = Unit {0}} (Err c.in_err-print_piece.field-0.0) c.args.printer.now c.print_piece.new.printer
-    (g.S.SliceSource.text_left c.args.source.now at.arrived (arrival_list (chunk_of p ∷ at.later))) (g.S.SliceSource.text_left c.print_piece.new.self at.arrived (arrival_list at.later))) is c.in_err-print_piece.ensures.prints at)
+    (g.S.SliceSource.text_left c.args.source.now at.arrived (arrival_list (chunk_of p ∷ at.later)))
+    (g.S.SliceSource.text_left c.print_piece.new.self at.arrived (arrival_list at.later))) is c.in_err-print_piece.ensures.prints at)
 
 pub returns-clause-prints : goal.returns-clause-prints
 returns-clause-prints g c =
@@ -20,9 +21,11 @@ returns-clause-prints g c =
     λ at. PrintsDownTo-passed (
     subst (λ p. (at : IsAtPiece (g.S.SliceSource.stands c.args.source.now) p)
     → PrintsDownTo g.W.Sink {A = Unit {0}} (Ok c.in_ok-print_piece.field-0) c.args.printer.now c.print_piece.new.printer
-    (g.S.SliceSource.text_left c.args.source.now at.arrived (arrival_list (chunk_of p ∷ at.later))) (g.S.SliceSource.text_left c.print_piece.new.self at.arrived (arrival_list at.later))) is c.in_ok-print_piece.ensures.prints at)
+    (g.S.SliceSource.text_left c.args.source.now at.arrived (arrival_list (chunk_of p ∷ at.later)))
+    (g.S.SliceSource.text_left c.print_piece.new.self at.arrived (arrival_list at.later))) is c.in_ok-print_piece.ensures.prints at)
 
 pub returns-clause-stands : goal.returns-clause-stands
 returns-clause-stands g c =
     let is : c.unwrap-held.result.now ≡ c.args.piece = search rules in
-    subst (λ p. (at : IsAtPiece (g.S.SliceSource.stands c.args.source.now) p) → g.S.SliceSource.stands c.print_piece.new.self at.arrived (stop_of p) at.later) is c.in_ok-print_piece.ensures.stands
+    subst (λ p. (at : IsAtPiece (g.S.SliceSource.stands c.args.source.now) p) → g.S.SliceSource.stands c.print_piece.new.self at.arrived (stop_of p) at.later)
+    is c.in_ok-print_piece.ensures.stands

@@ -21,7 +21,8 @@ loop-left-init g c =
       arrivals = checked.arrivals;
       number = 1;
       later = checked.arrived.items;
-      under_way = IsUnderWay-first checked.arrived _ (g.S.SliceSource.stands c.args.source.now checked.arrived) c.args.window.now checked.spelled (c.requires.first checked.arrived checked.spelled) c.requires.empty;
+      under_way = IsUnderWay-first checked.arrived _ (g.S.SliceSource.stands c.args.source.now checked.arrived) c.args.window.now checked.spelled
+          (c.requires.first checked.arrived checked.spelled) c.requires.empty;
       short = checked.short;
       printed = PrintsDownTo-none c.requires.working;
     }
@@ -36,7 +37,8 @@ decode_into-requires-clause-pairs g c =
 
 pub decode_into-requires-clause-room : goal.decode_into-requires-clause-room
 decode_into-requires-clause-room g c =
-    let short = subst (AreShort (vec_capacity c.loop-left.bytes)) (line_next _ _ _ c.first_line.result.1 c.in-Some.is c.first_line.ensures.lines) c.loop-left.invariant.short in
+    let short = subst (AreShort (vec_capacity c.loop-left.bytes)) (line_next _ _ _ c.first_line.result.1 c.in-Some.is c.first_line.ensures.lines)
+    c.loop-left.invariant.short in
     omega (arith, c.in-Some-line_of.ensures.shorter, ap digit_count c.in-Data.is, short.0)
 
 pub print_data-requires-clause-next : goal.print_data-requires-clause-next
@@ -44,8 +46,10 @@ print_data-requires-clause-next g c =
     let on = c.loop-left.invariant in
     let split = line_next _ _ _ c.first_line.result.1 c.in-Some.is c.first_line.ensures.lines in
     let t = c.in-Some-line_of.said.instant in
-    let is = sym c.in-Some-line_of.ensures.says ∙ ap (event_seen t) c.in-Data.is ∙ ap (λ r. option_map (arrival t) (result_ok r)) c.decode_into.ensures.decoded in
-    let found = at_data on.arrived on.number _ _ _ _ _ on.later c.stop.result t c.decode_into.new.bytes.items on.arrivals c.stop.ensures.value split is on.under_way in
+    let is = sym c.in-Some-line_of.ensures.says ∙ ap (event_seen t) c.in-Data.is
+    ∙ ap (λ r. option_map (arrival t) (result_ok r)) c.decode_into.ensures.decoded in
+    let found = at_data on.arrived on.number _ _ _ _ _ on.later c.stop.result t c.decode_into.new.bytes.items on.arrivals c.stop.ensures.value split is
+    on.under_way in
     record { arrived = on.arrived; later = found.others; of = found.of _; before = found.ready }
 
 pub returns-in_err-bytes-in-Data-clause-prints : goal.returns-in_err-bytes-in-Data-clause-prints
@@ -53,14 +57,18 @@ returns-in_err-bytes-in-Data-clause-prints g c =
     let on = c.loop-left.invariant in
     let split = line_next _ _ _ c.first_line.result.1 c.in-Some.is c.first_line.ensures.lines in
     let t = c.in-Some-line_of.said.instant in
-    let is = sym c.in-Some-line_of.ensures.says ∙ ap (event_seen t) c.in-Data.is ∙ ap (λ r. option_map (arrival t) (result_ok r)) c.decode_into.ensures.decoded in
-    let found = at_data on.arrived on.number _ _ _ _ _ on.later c.stop.result t c.decode_into.new.bytes.items on.arrivals c.stop.ensures.value split is on.under_way in
+    let is = sym c.in-Some-line_of.ensures.says ∙ ap (event_seen t) c.in-Data.is
+    ∙ ap (λ r. option_map (arrival t) (result_ok r)) c.decode_into.ensures.decoded in
+    let found = at_data on.arrived on.number _ _ _ _ _ on.later c.stop.result t c.decode_into.new.bytes.items on.arrivals c.stop.ensures.value split is
+    on.under_way in
     let before = subst (λ later. PrintsDownTo g.W.Sink (Ok (tt {0})) c.args.printer.now c.loop-left.printer
-    (g.S.SliceSource.text_left c.args.source.now on.arrived (arrival_list on.arrived.items)) (g.S.SliceSource.text_left c.loop-left.source on.arrived (arrival_list later))) found.is on.printed in
+    (g.S.SliceSource.text_left c.args.source.now on.arrived (arrival_list on.arrived.items))
+    (g.S.SliceSource.text_left c.loop-left.source on.arrived (arrival_list later))) found.is on.printed in
     let front = c.in_err-bytes-in-Data.ensures.prints (record { arrived = on.arrived; later = found.others; of = found.of _; before = found.ready }) in
     λ arrived spelled.
     let same : on.arrived ≡ arrived = (let both = sym on.spelled ∙ spelled in cc) in
-    subst (λ a. PrintsDownTo g.W.Sink c.from_residual.result c.args.printer.now c.print_data.new.printer (g.S.SliceSource.text_left c.args.source.now a (arrival_list a.items)) (g.S.SliceSource.text_left c.print_data.new.source a (Quiet ∷ []))) same
+    subst (λ a. PrintsDownTo g.W.Sink c.from_residual.result c.args.printer.now c.print_data.new.printer
+    (g.S.SliceSource.text_left c.args.source.now a (arrival_list a.items)) (g.S.SliceSource.text_left c.print_data.new.source a (Quiet ∷ []))) same
     (PrintsDownTo-stopped c.from_residual.ensures.1 before front)
 
 pub loop-left-preserved-in-Data : goal.loop-left-preserved-in-Data
@@ -69,12 +77,16 @@ loop-left-preserved-in-Data g c =
     let split = line_next _ _ _ c.first_line.result.1 c.in-Some.is c.first_line.ensures.lines in
     let short = subst (AreShort (vec_capacity c.loop-left.bytes)) split on.short in
     let t = c.in-Some-line_of.said.instant in
-    let is = sym c.in-Some-line_of.ensures.says ∙ ap (event_seen t) c.in-Data.is ∙ ap (λ r. option_map (arrival t) (result_ok r)) c.decode_into.ensures.decoded in
-    let found = at_data on.arrived on.number _ _ _ _ _ on.later c.stop.result t c.decode_into.new.bytes.items on.arrivals c.stop.ensures.value split is on.under_way in
+    let is = sym c.in-Some-line_of.ensures.says ∙ ap (event_seen t) c.in-Data.is
+    ∙ ap (λ r. option_map (arrival t) (result_ok r)) c.decode_into.ensures.decoded in
+    let found = at_data on.arrived on.number _ _ _ _ _ on.later c.stop.result t c.decode_into.new.bytes.items on.arrivals c.stop.ensures.value split is
+    on.under_way in
     let before = subst (λ later. PrintsDownTo g.W.Sink (Ok (tt {0})) c.args.printer.now c.loop-left.printer
-    (g.S.SliceSource.text_left c.args.source.now on.arrived (arrival_list on.arrived.items)) (g.S.SliceSource.text_left c.loop-left.source on.arrived (arrival_list later))) found.is on.printed in
+    (g.S.SliceSource.text_left c.args.source.now on.arrived (arrival_list on.arrived.items))
+    (g.S.SliceSource.text_left c.loop-left.source on.arrived (arrival_list later))) found.is on.printed in
     let piece : Run = record { start = c.stop.result; bytes = c.decode_into.new.bytes.items; instant = t; room = vec_capacity c.decode_into.new.bytes } in
-    let at : IsAtPiece (g.S.SliceSource.stands c.loop-left.source) piece = record { arrived = on.arrived; later = found.others; of = found.of piece.room; before = found.ready } in
+    let at : IsAtPiece (g.S.SliceSource.stands c.loop-left.source) piece =
+    record { arrived = on.arrived; later = found.others; of = found.of piece.room; before = found.ready } in
     let done = c.in_ok-bytes-in-Data.ensures in
     let printed = done.prints at in
     record {
@@ -93,7 +105,8 @@ end-requires g c =
     let on = c.loop-left.invariant in
     let t = c.in-Some-line_of.said.instant in
     let is : line_of c.first_line.result.0.now ≡ Some (end t) = sym c.in-Some-line_of.ensures.says ∙ ap (event_seen t) c.in-Eof.is in
-    let last = at_last on.arrived on.number _ _ _ _ _ on.later t (line_next _ _ _ c.first_line.result.1 c.in-Some.is c.first_line.ensures.lines) is on.under_way in
+    let last = at_last on.arrived on.number _ _ _ _ _ on.later t (line_next _ _ _ c.first_line.result.1 c.in-Some.is c.first_line.ensures.lines) is on.under_way
+    in
     record { next = record { arrived = on.arrived; position = last.position; later = last.others; before = last.ready } }
 
 pub loop-left-preserved : goal.loop-left-preserved
@@ -104,9 +117,11 @@ loop-left-preserved g c =
     let t = c.in-Some-line_of.said.instant in
     let is : line_of c.first_line.result.0.now ≡ Some (end t) = sym c.in-Some-line_of.ensures.says ∙ ap (event_seen t) c.in-Eof.is in
     let last = at_last on.arrived on.number _ _ _ _ _ on.later t split is on.under_way in
-    let at : IsAtSourceEnd (g.S.SliceSource.stands c.loop-left.source) t = record { arrived = on.arrived; position = last.position; later = last.others; before = last.ready } in
+    let at : IsAtSourceEnd (g.S.SliceSource.stands c.loop-left.source) t =
+    record { arrived = on.arrived; position = last.position; later = last.others; before = last.ready } in
     let before = subst (λ later. PrintsDownTo g.W.Sink (Ok (tt {0})) c.args.printer.now c.loop-left.printer
-    (g.S.SliceSource.text_left c.args.source.now on.arrived (arrival_list on.arrived.items)) (g.S.SliceSource.text_left c.loop-left.source on.arrived (arrival_list later))) last.is on.printed in
+    (g.S.SliceSource.text_left c.args.source.now on.arrived (arrival_list on.arrived.items))
+    (g.S.SliceSource.text_left c.loop-left.source on.arrived (arrival_list later))) last.is on.printed in
     record {
       arrived = on.arrived;
       spelled = on.spelled;
@@ -129,7 +144,8 @@ returns-clause-prints g c =
     subst (λ a. PrintsDownTo g.W.Sink (Ok (tt {0})) c.args.printer.now c.loop-left.printer
     (g.S.SliceSource.text_left c.args.source.now a (arrival_list a.items)) (g.S.SliceSource.text_left c.loop-left.source a (Quiet ∷ []))) same
     (subst (λ later. PrintsDownTo g.W.Sink (Ok (tt {0})) c.args.printer.now c.loop-left.printer
-    (g.S.SliceSource.text_left c.args.source.now on.arrived (arrival_list on.arrived.items)) (g.S.SliceSource.text_left c.loop-left.source on.arrived (arrival_list later))) none on.printed)
+    (g.S.SliceSource.text_left c.args.source.now on.arrived (arrival_list on.arrived.items))
+    (g.S.SliceSource.text_left c.loop-left.source on.arrived (arrival_list later))) none on.printed)
 
 pub returns-clause-behind : goal.returns-clause-behind
 returns-clause-behind g c =

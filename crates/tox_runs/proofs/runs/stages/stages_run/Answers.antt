@@ -14,9 +14,11 @@ returns-clause-ok g c =
     let checked = c.in-Ok.ensures.checked in
     let outcome = c.in-Ok-run_stages.outcome in
     let wrote = at_checked _ _ _ checked c.deref-2.ensures.value c.write_outcome.ensures in
-    let written : g.W.Sink.written c.write_outcome.new.writer ≡ append_known (g.W.Sink.written c.args.writer.now) (result_text checked.arrived (slices_table outcome.slices) outcome.ending) = search rules in
+    let written : g.W.Sink.written c.write_outcome.new.writer ≡ append_known (g.W.Sink.written c.args.writer.now)
+    (result_text checked.arrived (slices_table outcome.slices) outcome.ending) = search rules in
     let listed = at_checked _ _ _ checked c.deref.ensures.value c.in-Ok-list_arrivals.ensures in
-    let of : IsOutcomeOf (chain_flow c.args.chain.now c.args.words.now (arrival_list checked.arrived.items)) outcome = rw listed at c.in-Ok-run_stages.ensures.flow in
+    let of : IsOutcomeOf (chain_flow c.args.chain.now c.args.words.now (arrival_list checked.arrived.items)) outcome =
+    rw listed at c.in-Ok-run_stages.ensures.flow in
     record {
       arrived = checked.arrived;
       read = record { text = c.in-Ok.input.text.items; read = c.in-Ok.ensures.read; spelled = checked.spelled };

@@ -8,8 +8,10 @@ pub returns-in_err-value_in : goal.returns-in_err-value_in
 returns-in_err-value_in c =
     let none : c.from_residual.result ≡ None = search rules in
     rw none
-    (sym (values_in-none c.args.toxic.now (option_map (λ table. view table.now) c.args.attributes) c.attributes-key-items.result.now c.attributes-key-items.ensures.names c.loop-key.key-index (record { ref_ptr = (0, 0); now = [] }) c.loop-key-test.true (search rules)))
+    (sym (values_in-none c.args.toxic.now (option_map (λ table. view table.now) c.args.attributes) c.attributes-key-items.result.now
+    c.attributes-key-items.ensures.names c.loop-key.key-index (record { ref_ptr = (0, 0); now = [] }) c.loop-key-test.true (search rules)))
 
 pub returns : goal.returns
 returns c =
-    sym (values_in-all c.args.toxic.now (option_map (λ table. view table.now) c.args.attributes) c.attributes-key-items.result.now c.attributes-key-items.ensures.names c.loop-key.key-index c.loop-key.values.items c.loop-key-test.false c.loop-key.invariant)
+    sym (values_in-all c.args.toxic.now (option_map (λ table. view table.now) c.args.attributes) c.attributes-key-items.result.now
+    c.attributes-key-items.ensures.names c.loop-key.key-index c.loop-key.values.items c.loop-key-test.false c.loop-key.invariant)

@@ -7,7 +7,8 @@ pub loop-step-preserved : goal.loop-step-preserved
 loop-step-preserved c =
     let turn = c.loop-step in
     rw (c.in_ok-push.ensures.items, c.behind-above.ensures, c.behind-below.ensures)
-    (IsLaid-next c.args.upper.now c.args.lower.now turn.steps.items turn.above.now turn.below.now c.in-Some.step turn.invariant (joined_some turn.above.now turn.below.now c.in-Some.step (sym c.in-Some.ensures)))
+    (IsLaid-next c.args.upper.now c.args.lower.now turn.steps.items turn.above.now turn.below.now c.in-Some.step turn.invariant
+    (joined_some turn.above.now turn.below.now c.in-Some.step (sym c.in-Some.ensures)))
 
 pub returns-clause-found : goal.returns-clause-found
 returns-clause-found c =

@@ -1,6 +1,7 @@
 -- The names so far are already too long.
 use Rattle.std.specs.Borrow.{Bor}
-use Rattle.std.proofs.Common.{◌≡◌, ℕ, ◌<◌, List, [], ◌∷◌, ◌++◌, Option, Some, None, IfNone, flat_map, get_or, length, length-append, suc, take, drop, drop-cons, ap, sym, ◌∙◌, arith}
+use Rattle.std.proofs.Common.{◌≡◌, ℕ, ◌<◌, List, [], ◌∷◌, ◌++◌, Option, Some, None, IfNone, flat_map, get_or, length, length-append, suc, take, drop, drop-cons}
+use Rattle.std.proofs.Common.{ap, sym, ◌∙◌, arith}
 use Rattle.std.proofs.lemmas.Grind.{flat_map-append}
 use Rattle.std.proofs.lemmas.List.{take-append-drop}
 use Rattle.tox_serve.specs.output.OpenLine.{spaced}
@@ -17,7 +18,8 @@ longer line old names i d here is long =
     let front = flat_map spaced (take i names) in
     let back = flat_map spaced (drop (suc i) names) in
     let whole : flat_map spaced names ≡ front ++ (spaced name ++ back) =
-    ap (flat_map spaced) (sym (take-append-drop i names)) ∙ flat_map-append spaced (take i names) (drop i names) ∙ ap (λ names. front ++ flat_map spaced names) (drop-cons names i d here) in
+    ap (flat_map spaced) (sym (take-append-drop i names)) ∙ flat_map-append spaced (take i names) (drop i names)
+    ∙ ap (λ names. front ++ flat_map spaced names) (drop-cons names i d here) in
     let a = length-append line (32 ∷ (name.now ++ [])) in
     let b = length-append name.now [] in
     let c = ap length is ∙ length-append old front in
@@ -29,4 +31,5 @@ longer line old names i d here is long =
 pub returns-in_err-add-clause-long : goal.returns-in_err-add-clause-long
 returns-in_err-add-clause-long c =
     if-none c.from_residual.result _
-    (longer c.loop-name.line.bytes.items c.args.line.now.bytes.items c.args.names.now c.loop-name.name-index _ c.loop-name-test.true c.loop-name.invariant.added c.in_err-add.ensures.long)
+    (longer c.loop-name.line.bytes.items c.args.line.now.bytes.items c.args.names.now c.loop-name.name-index _ c.loop-name-test.true c.loop-name.invariant.added
+    c.in_err-add.ensures.long)

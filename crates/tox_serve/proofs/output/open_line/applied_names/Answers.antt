@@ -15,7 +15,8 @@ loop-place-preserved c =
     let turn = c.loop-place in
     let placed = enumerate_from 0 (zip c.args.entries.now (map string_bytes c.args.names.now)) in
     let draws = draws_of c.args.drawing.now in
-    let here = IsAt-placed string_bytes c.args.entries.now c.args.names.now turn.place (record { toxic = Latency 0 0 0 0; toxicity = 0 }) c.index-names-place.result c.requires.one_each c.loop-place-test.true c.index-names-place.is in
+    let here = IsAt-placed string_bytes c.args.entries.now c.args.names.now turn.place (record { toxic = Latency 0 0 0 0; toxicity = 0 })
+    c.index-names-place.result c.requires.one_each c.loop-place-test.true c.index-names-place.is in
     record {
       few = omega (arith, c.add_if.ensures.few, turn.invariant.few);
       inside = omega (arith, c.loop-place-test.true);

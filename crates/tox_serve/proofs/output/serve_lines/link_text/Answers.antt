@@ -12,10 +12,14 @@ two-sides : (title name a number b sent c ended d received e other f : List ℕ)
 two-sides title name a number b sent c ended d received e other f = simp append_assoc
 
 link_end_line-parts : (name : List ℕ) (end : LinkEnd)
-    → codes "link " ++ (visible_name name ++ (codes " " ++ (decimal end.number ++ (codes " up " ++ (decimal end.upstream.bytes ++ (codes " " ++ (end_word end.upstream.ending ++ (codes " down " ++ (decimal end.downstream.bytes ++ (codes " " ++ (end_word end.downstream.ending ++ codes "\n")))))))))))
+    → codes "link " ++ (visible_name name ++ (codes " " ++ (decimal end.number
+    ++ (codes " up " ++ (decimal end.upstream.bytes ++ (codes " " ++
+    (end_word end.upstream.ending ++ (codes " down " ++ (decimal end.downstream.bytes
+    ++ (codes " " ++ (end_word end.downstream.ending ++ codes "\n")))))))))))
     ≡ link_end_line name end
 link_end_line-parts name end =
-    two-sides (codes "link ") (visible_name name) (codes " ") (decimal end.number) (codes " up ") (decimal end.upstream.bytes) (codes " ") (end_word end.upstream.ending) (codes " down ") (decimal end.downstream.bytes) (codes " ") (end_word end.downstream.ending) (codes "\n")
+    two-sides (codes "link ") (visible_name name) (codes " ") (decimal end.number) (codes " up ") (decimal end.upstream.bytes) (codes " ")
+    (end_word end.upstream.ending) (codes " down ") (decimal end.downstream.bytes) (codes " ") (end_word end.downstream.ending) (codes "\n")
 
 pub returns : goal.returns
 returns c =

@@ -9,7 +9,8 @@ use Rattle.tox_serve.specs.output.LineText.{IsLine}
 use Rattle.tox_serve.proofs.output.serve_lines.total_text.Goals as goal
 
 proxy_total_line-parts : (name : List ℕ) (links : List Link)
-    → codes "total " ++ (visible_name name ++ (codes " " ++ (decimal (length links) ++ (codes " up " ++ (decimal (total_of Upstream links) ++ (codes " down " ++ (decimal (total_of Downstream links) ++ codes "\n")))))))
+    → codes "total " ++ (visible_name name ++ (codes " " ++ (decimal (length links)
+    ++ (codes " up " ++ (decimal (total_of Upstream links) ++ (codes " down " ++ (decimal (total_of Downstream links) ++ codes "\n")))))))
     ≡ proxy_total_line name links
 proxy_total_line-parts name links = simp append_assoc
 

@@ -25,17 +25,21 @@ returns-in_err-bound-clause-fault g c =
 pub loop-proxy-preserved : goal.loop-proxy-preserved
 loop-proxy-preserved g c =
     let stands : slice_get c.args.proxies.now c.loop-proxy.place ≡ Some c.proxy-item.result =
-    ap (slice_get c.args.proxies.now) c.loop-proxy.invariant.place ∙ slice_get-get_or c.args.proxies.now c.loop-proxy.proxy-index c.proxy-item.result c.loop-proxy-test.true ∙ ap Some (sym c.proxy-item.is) in
+    ap (slice_get c.args.proxies.now) c.loop-proxy.invariant.place ∙ slice_get-get_or c.args.proxies.now c.loop-proxy.proxy-index c.proxy-item.result
+    c.loop-proxy-test.true ∙ ap Some (sym c.proxy-item.is) in
     record {
       bound = grind (arith, common_steps);
       place = omega (arith, c.loop-proxy.invariant.place);
       places = elim c.if-proxy.branch [
         | then-proxy+in_ok-bound+else-is_err w ↦
             let pushed : w.push.new.self.items ≡ c.loop-proxy.listening.items ++ w.in_ok-bound.bound ∷ [] = search rules in
-            let here : slice_get c.args.proxies.now w.in_ok-bound.bound.place ≡ Some c.proxy-item.result = ap (slice_get c.args.proxies.now) w.in_ok-bound.ensures.proxy.1 ∙ stands in
+            let here : slice_get c.args.proxies.now w.in_ok-bound.bound.place ≡ Some c.proxy-item.result =
+            ap (slice_get c.args.proxies.now) w.in_ok-bound.ensures.proxy.1 ∙ stands in
             subst (All (StandsAt c.args.proxies.now)) (sym (ap (λ (listening : Vec Listening Global). listening.items) w.listening-is ∙ pushed))
             (All-append (StandsAt c.args.proxies.now) c.loop-proxy.listening.items (w.in_ok-bound.bound ∷ []) c.loop-proxy.invariant.places
-            (All-cons (StandsAt c.args.proxies.now) w.in_ok-bound.bound [] (here ∙ ap Some (sym w.in_ok-bound.ensures.proxy.0)) (All-nil (StandsAt c.args.proxies.now))))
-        | else-proxy w ↦ subst (λ (listening : Vec Listening Global). All (StandsAt c.args.proxies.now) listening.items) (sym w.listening-is) c.loop-proxy.invariant.places
+            (All-cons (StandsAt c.args.proxies.now) w.in_ok-bound.bound [] (here ∙ ap Some (sym w.in_ok-bound.ensures.proxy.0))
+            (All-nil (StandsAt c.args.proxies.now))))
+        | else-proxy w ↦ subst (λ (listening : Vec Listening Global). All (StandsAt c.args.proxies.now) listening.items) (sym w.listening-is)
+            c.loop-proxy.invariant.places
       ];
     }

@@ -14,13 +14,15 @@ pub invariant_of-self : goal.invariant_of-self
 invariant_of-self c = record {
   known = λ fine.
       let pushed = ok_kept _ _ (sym c.is_err-self.ensures.value ∙ fine) c.push.ensures.ok in
-      ap has_final pushed ∙ has_final-last c.args.self.now.delivered c.args.item (c.args.self.now.known c.if-not-self.true ∙ c.requires) ∙ sym c.is_final-self.ensures;
+      ap has_final pushed ∙ has_final-last c.args.self.now.delivered c.args.item (c.args.self.now.known c.if-not-self.true ∙ c.requires)
+      ∙ sym c.is_final-self.ensures;
 }
 
 pub returns-then-not-self : goal.returns-then-not-self
 returns-then-not-self c = record {
   kept = λ items before. record {
-    kept = λ fine. ok_kept _ _ (sym c.is_err-self.ensures.value ∙ fine) c.push.ensures.ok ∙ ap (λ kept. kept ++ c.args.item ∷ []) (before.kept c.if-not-self.true);
+    kept = λ fine. ok_kept _ _ (sym c.is_err-self.ensures.value ∙ fine) c.push.ensures.ok
+        ∙ ap (λ kept. kept ++ c.args.item ∷ []) (before.kept c.if-not-self.true);
     ended = c.is_final-self.ensures ∙ sym (has_final-last items c.args.item (sym before.ended ∙ c.requires));
   };
 }

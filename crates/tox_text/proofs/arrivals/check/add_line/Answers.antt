@@ -9,7 +9,8 @@ pub returns-in-Err-clause-fault : goal.returns-in-Err-clause-fault
 returns-in-Err-clause-fault c =
     let read = pairs_read c.in-Some.said.instant c.in-Data.digits.now (sym c.are_pairs.ensures ∙ c.if-not-are_pairs.false) in
     let filled : (length c.args.line.now == 0) ≡ false = sym c.is_empty.ensures ∙ c.if-is_empty.false in
-    let is : line_of c.args.line.now ≡ Some (arrival c.in-Some.said.instant read.0) = sym c.in-Some.ensures.says ∙ ap (event_seen c.in-Some.said.instant) c.in-Data.is ∙ read.1 in
+    let is : line_of c.args.line.now ≡ Some (arrival c.in-Some.said.instant read.0) = sym c.in-Some.ensures.says
+    ∙ ap (event_seen c.in-Some.said.instant) c.in-Data.is ∙ read.1 in
     let place = c.args.so_far.now in
     λ before counts. data_refused c.args.number place before c.in-Some.said.instant read.0 c.args.line.now c.in-Err.fault filled is
     (ap (λ n. piece_fault place.position place.latest place.ended n c.in-Some.said.instant) (sym read.2) ∙ c.in-Err.ensures.fault) counts
@@ -18,7 +19,8 @@ pub returns-in-Ok-clause-ok : goal.returns-in-Ok-clause-ok
 returns-in-Ok-clause-ok c =
     let read = pairs_read c.in-Some.said.instant c.in-Data.digits.now (sym c.are_pairs.ensures ∙ c.if-not-are_pairs.false) in
     let filled : (length c.args.line.now == 0) ≡ false = sym c.is_empty.ensures ∙ c.if-is_empty.false in
-    let is : line_of c.args.line.now ≡ Some (arrival c.in-Some.said.instant read.0) = sym c.in-Some.ensures.says ∙ ap (event_seen c.in-Some.said.instant) c.in-Data.is ∙ read.1 in
+    let is : line_of c.args.line.now ≡ Some (arrival c.in-Some.said.instant read.0) = sym c.in-Some.ensures.says
+    ∙ ap (event_seen c.in-Some.said.instant) c.in-Data.is ∙ read.1 in
     let ok = c.in-Ok.ensures in
     let place = c.args.so_far.now in
     λ before counts. data_counted c.args.number place c.in-Ok.next before c.in-Some.said.instant read.0 c.args.line.now filled is ok.timed

@@ -11,7 +11,8 @@ pub loop-left-init : goal.loop-left-init
 loop-left-init c = record {
   few = omega arith;
   before = no_arrivals;
-  counts = Counts-first _ (ap (λ place. place.position) c.start-so_far.ensures) (ap (λ place. place.latest) c.start-so_far.ensures) (ap (λ place. place.ended) c.start-so_far.ensures);
+  counts = Counts-first _ (ap (λ place. place.position) c.start-so_far.ensures) (ap (λ place. place.latest) c.start-so_far.ensures)
+      (ap (λ place. place.ended) c.start-so_far.ensures);
   rest = refl;
   short = λ most longest short. short;
   longest = omega arith;
@@ -23,9 +24,14 @@ loop-left-preserved c =
     let after = c.in_ok-add_line.ensures.ok on.before on.counts in
     let others = lines_left (option_map (λ rest. rest.now) c.first_line.result.1) in
     let line = c.first_line.result.0.now in
-    let split : lines_left (option_map (λ rest. rest.now) c.loop-left.left) ≡ line ∷ others = ap (λ left. lines_left (option_map (λ rest. rest.now) left)) c.in-Some.is ∙ c.first_line.ensures.lines in
+    let split : lines_left (option_map (λ rest. rest.now) c.loop-left.left) ≡ line ∷ others =
+    ap (λ left. lines_left (option_map (λ rest. rest.now) left)) c.in-Some.is ∙ c.first_line.ensures.lines in
     record {
-      few = omega (arith, subst (λ left. c.loop-left.number + size_left (option_map (λ rest. rest.now) left) ≤ length c.args.text.now + 1) c.in-Some.is on.few, c.first_line.ensures.shorter);
+      few = omega (
+        arith,
+        subst (λ left. c.loop-left.number + size_left (option_map (λ rest. rest.now) left) ≤ length c.args.text.now + 1) c.in-Some.is on.few,
+        c.first_line.ensures.shorter,
+      );
       before = after.0;
       counts = after.2;
       rest =

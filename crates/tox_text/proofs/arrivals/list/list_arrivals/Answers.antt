@@ -16,8 +16,10 @@ loop-left-preserved c =
     let line = c.first_line.result.0.now in
     let others = lines_left (option_map (λ rest. rest.now) c.first_line.result.1) in
     let t = c.in-Some-line_of.said.instant in
-    let split : lines_left (option_map (λ rest. rest.now) c.loop-left.left) ≡ line ∷ others = ap (λ left. lines_left (option_map (λ rest. rest.now) left)) c.in-Some.is ∙ c.first_line.ensures.lines in
-    let went = bind_ok (after_line on.number on.before line) (after_lines (on.number + 1) others) on.arrived (subst (λ lines. after_lines on.number lines on.before ≡ Ok on.arrived) split on.rest) in
+    let split : lines_left (option_map (λ rest. rest.now) c.loop-left.left) ≡ line ∷ others =
+    ap (λ left. lines_left (option_map (λ rest. rest.now) left)) c.in-Some.is ∙ c.first_line.ensures.lines in
+    let went = bind_ok (after_line on.number on.before line) (after_lines (on.number + 1) others) on.arrived
+    (subst (λ lines. after_lines on.number lines on.before ≡ Ok on.arrived) split on.rest) in
     let some : 0 < length line = omega (arith, c.in-Some-line_of.ensures.shorter) in
     record {
       arrived = on.arrived;
@@ -28,7 +30,8 @@ loop-left-preserved c =
       items = elim c.match-said.branch [
         | in-Data w ↦
             let says = sym c.in-Some-line_of.ensures.says ∙ ap (event_seen t) w.in-Data.is in
-            let listed : w.push-added.new.self ≡ c.loop-left.arrivals ++ next_chunk c.loop-left.arrivals (length w.in-Data.digits.now / 2) t ∷ [] = search rules in
+            let listed : w.push-added.new.self ≡ c.loop-left.arrivals ++ next_chunk c.loop-left.arrivals (length w.in-Data.digits.now / 2) t ∷ [] =
+            search rules in
             w.arrivals-is ∙ listed ∙ ap (λ items. items ++ next_chunk items (length w.in-Data.digits.now / 2) t ∷ []) on.items
             ∙ sym (chunk_taken on.number on.before went.0 t w.in-Data.digits.now line says some went.1)
         | in-Eof w ↦

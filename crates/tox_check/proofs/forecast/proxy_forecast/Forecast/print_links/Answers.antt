@@ -33,11 +33,15 @@ loop-before-preserved g c =
     let found = chains_found me.proxy.now me.script.now conn c.rule-rule.result c.rule_chains-chains.result.now met c.rule_chains-chains.ensures in
     let whole = flags_found me.proxy.now me.script.now me.question.now.seed conn c.rule_chains-chains.result.now found in
     let ups : flags.upstream.items ≡ flags_for me.proxy.now me.script.now me.question.now.seed conn Upstream = c.link_flags-flags.ensures.upstream ∙ whole.0 in
-    let downs : flags.downstream.items ≡ flags_for me.proxy.now me.script.now me.question.now.seed conn Downstream = c.link_flags-flags.ensures.downstream ∙ whole.1 in
-    let text = link_text-found me.question.now me.proxy.now me.script.now conn c.rule-rule.result c.rule_chains-chains.result.now flags.upstream.items flags.downstream.items met found ups downs in
-    let tallied = IsTallied-next me.proxy.now me.script.now me.question.now.seed turn.before c.rule-rule.result flags turn.tallies c.count_link.new.tallies met ups downs c.count_link.ensures turn.invariant.tallied in
+    let downs : flags.downstream.items ≡ flags_for me.proxy.now me.script.now me.question.now.seed conn Downstream = c.link_flags-flags.ensures.downstream
+    ∙ whole.1 in
+    let text = link_text-found me.question.now me.proxy.now me.script.now conn c.rule-rule.result c.rule_chains-chains.result.now flags.upstream.items
+    flags.downstream.items met found ups downs in
+    let tallied = IsTallied-next me.proxy.now me.script.now me.question.now.seed turn.before c.rule-rule.result flags turn.tallies c.count_link.new.tallies met
+    ups downs c.count_link.ensures turn.invariant.tallied in
     record {
-      passed = Prints-more (link_text me.question.now me.proxy.now me.script.now) (IsAt-numbers_from 1 me.question.now.links turn.before c.loop-before-test.true) turn.invariant.passed
+      passed = Prints-more (link_text me.question.now me.proxy.now me.script.now)
+          (IsAt-numbers_from 1 me.question.now.links turn.before c.loop-before-test.true) turn.invariant.passed
           (rw text at c.in_ok-print_link.ensures);
       long = omega (arith, c.count_link.auto.tallies, turn.invariant.long);
       tallied = rw add-one tallied;
@@ -53,10 +57,13 @@ returns-in_err-print_link-clause-printed g c =
     let found = chains_found me.proxy.now me.script.now conn c.rule-rule.result c.rule_chains-chains.result.now met c.rule_chains-chains.ensures in
     let whole = flags_found me.proxy.now me.script.now me.question.now.seed conn c.rule_chains-chains.result.now found in
     let ups : flags.upstream.items ≡ flags_for me.proxy.now me.script.now me.question.now.seed conn Upstream = c.link_flags-flags.ensures.upstream ∙ whole.0 in
-    let downs : flags.downstream.items ≡ flags_for me.proxy.now me.script.now me.question.now.seed conn Downstream = c.link_flags-flags.ensures.downstream ∙ whole.1 in
-    let text = link_text-found me.question.now me.proxy.now me.script.now conn c.rule-rule.result c.rule_chains-chains.result.now flags.upstream.items flags.downstream.items met found ups downs in
+    let downs : flags.downstream.items ≡ flags_for me.proxy.now me.script.now me.question.now.seed conn Downstream = c.link_flags-flags.ensures.downstream
+    ∙ whole.1 in
+    let text = link_text-found me.question.now me.proxy.now me.script.now conn c.rule-rule.result c.rule_chains-chains.result.now flags.upstream.items
+    flags.downstream.items met found ups downs in
     Prints-stopped (link_text me.question.now me.proxy.now me.script.now)
-    (IsAt-numbers_from 1 me.question.now.links turn.before c.loop-before-test.true) c.from_residual.ensures.1 turn.invariant.passed (rw text at c.in_err-print_link.ensures)
+    (IsAt-numbers_from 1 me.question.now.links turn.before c.loop-before-test.true) c.from_residual.ensures.1 turn.invariant.passed
+    (rw text at c.in_err-print_link.ensures)
 
 pub returns-clause-printed : goal.returns-clause-printed
 returns-clause-printed g c =

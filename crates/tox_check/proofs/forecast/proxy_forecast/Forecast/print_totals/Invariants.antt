@@ -8,5 +8,7 @@ use Rattle.tox_check.proofs.forecast.proxy_forecast.Forecast.print_totals.Given 
 
 abbrev pub invariant-loop-rule : goal.invariant-loop-rule
 invariant-loop-rule g l = Prints g.W.Sink (Ok tt) l.fn.printer l.printer
-    (flat_map (λ rule. rule_totals l.self.question.now.json l.self.proxy.now rule (totals_of l.self.proxy.now l.script l.self.question.now.seed rule (numbers_from 1 l.self.question.now.links)) (chains_numbered (Some rule) l.script) (order_numbered rule l.script))
+    (flat_map (λ rule. rule_totals l.self.question.now.json l.self.proxy.now rule
+    (totals_of l.self.proxy.now l.script l.self.question.now.seed rule (numbers_from 1 l.self.question.now.links)) (chains_numbered (Some rule) l.script)
+    (order_numbered rule l.script))
     (take l.rule (numbers_from 0 (length l.script.rules))))

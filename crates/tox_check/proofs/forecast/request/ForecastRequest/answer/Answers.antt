@@ -15,11 +15,22 @@ returns-in_err-print_forecast-clause-fault g c =
     let request = c.args.self.now in
     let setup = c.in_ok-setup.setup in
     let asked : AsksFor request.stream c.in_ok-stream.stream = c.in_ok-stream.ensures.ok in
-    let set_up : IsSetUp (g.F.NamedFiles.known c.args.files.now request.config.now) (g.F.NamedFiles.known c.args.files.now request.script.now) setup.proxies.items setup.script = c.in_ok-setup.ensures.ok in
+    let set_up : IsSetUp (g.F.NamedFiles.known c.args.files.now request.config.now) (g.F.NamedFiles.known c.args.files.now request.script.now)
+    setup.proxies.items setup.script = c.in_ok-setup.ensures.ok in
     let found : find (is_named request.proxy.now) setup.proxies.items ≡ Some c.in-Some.proxy.now = search rules in
     let named : c.deref-2.result.now ≡ c.in-Some.proxy.now.name = c.deref-2.ensures ∙ ap (λ (p : Proxy). p.name) c.proxy.view_is in
-    let answers : Forecasts (g.F.NamedFiles.known c.args.files.now) request (forecast_text (question_of request c.in_ok-stream.stream) c.deref-2.result.now setup.script) =
-    record { stream = c.in_ok-stream.stream; asked = asked; proxies = setup.proxies.items; rules = setup.script; set_up = set_up; proxy = c.in-Some.proxy.now; found = found; spelled = ap (λ name. forecast_text (question_of request c.in_ok-stream.stream) name setup.script) named } in
+    let answers : Forecasts (g.F.NamedFiles.known c.args.files.now) request
+    (forecast_text (question_of request c.in_ok-stream.stream) c.deref-2.result.now setup.script) =
+    record {
+      stream = c.in_ok-stream.stream;
+      asked = asked;
+      proxies = setup.proxies.items;
+      rules = setup.script;
+      set_up = set_up;
+      proxy = c.in-Some.proxy.now;
+      found = found;
+      spelled = ap (λ name. forecast_text (question_of request c.in_ok-stream.stream) name setup.script) named;
+    } in
     let exit = err_from_is_err_and c.from_residual-in_err-print_forecast.result c.from_residual-in_err-print_forecast.ensures.1 in
     rw (exit.1, exit.2) (record { text = _; forecasts = answers; left = c.in_err-print_forecast.ensures.left })
 
@@ -28,9 +39,20 @@ returns-clause-ok g c =
     let request = c.args.self.now in
     let setup = c.in_ok-setup.setup in
     let asked : AsksFor request.stream c.in_ok-stream.stream = c.in_ok-stream.ensures.ok in
-    let set_up : IsSetUp (g.F.NamedFiles.known c.args.files.now request.config.now) (g.F.NamedFiles.known c.args.files.now request.script.now) setup.proxies.items setup.script = c.in_ok-setup.ensures.ok in
+    let set_up : IsSetUp (g.F.NamedFiles.known c.args.files.now request.config.now) (g.F.NamedFiles.known c.args.files.now request.script.now)
+    setup.proxies.items setup.script = c.in_ok-setup.ensures.ok in
     let found : find (is_named request.proxy.now) setup.proxies.items ≡ Some c.in-Some.proxy.now = search rules in
     let named : c.deref-2.result.now ≡ c.in-Some.proxy.now.name = c.deref-2.ensures ∙ ap (λ (p : Proxy). p.name) c.proxy.view_is in
-    let answers : Forecasts (g.F.NamedFiles.known c.args.files.now) request (forecast_text (question_of request c.in_ok-stream.stream) c.deref-2.result.now setup.script) =
-    record { stream = c.in_ok-stream.stream; asked = asked; proxies = setup.proxies.items; rules = setup.script; set_up = set_up; proxy = c.in-Some.proxy.now; found = found; spelled = ap (λ name. forecast_text (question_of request c.in_ok-stream.stream) name setup.script) named } in
+    let answers : Forecasts (g.F.NamedFiles.known c.args.files.now) request
+    (forecast_text (question_of request c.in_ok-stream.stream) c.deref-2.result.now setup.script) =
+    record {
+      stream = c.in_ok-stream.stream;
+      asked = asked;
+      proxies = setup.proxies.items;
+      rules = setup.script;
+      set_up = set_up;
+      proxy = c.in-Some.proxy.now;
+      found = found;
+      spelled = ap (λ name. forecast_text (question_of request c.in_ok-stream.stream) name setup.script) named;
+    } in
     record { text = _; forecasts = answers; written = c.in_ok-print_forecast.ensures.ok }

@@ -21,16 +21,19 @@ returns-in-Limit-clause-finds c = λ items. rw c.in-Limit.is (c.look-in-Limit.en
 pub returns-else-is_outside-clause-finds : goal.returns-else-is_outside-clause-finds
 returns-else-is_outside-clause-finds c =
     let giving = delay_op_gives c.in-Delay.fixed c.in-Delay.latency c.in-Delay.jitter (draws_of c.args.drawing.now c.in-Delay.lane) in
-    λ items. rw c.in-Delay.is (finds_inside c.in-Delay.from c.in-Delay.until (counted giving) c.args.state.now c.args.rest.now c.look.result (sym c.is_outside.ensures ∙ c.if-is_outside.false) (c.look.ensures.finds []) items)
+    λ items. rw c.in-Delay.is (finds_inside c.in-Delay.from c.in-Delay.until (counted giving) c.args.state.now c.args.rest.now c.look.result
+    (sym c.is_outside.ensures ∙ c.if-is_outside.false) (c.look.ensures.finds []) items)
 
 pub returns-else-is_outside-2-clause-finds : goal.returns-else-is_outside-2-clause-finds
 returns-else-is_outside-2-clause-finds c =
-    λ items. rw c.in-Pace.is (finds_inside c.in-Pace.from c.in-Pace.until (counted (pace_gives c.in-Pace.rate)) c.args.state.now c.args.rest.now c.look-in-Pace.result (sym c.is_outside-in-Pace.ensures ∙ c.if-is_outside-2.false) (c.look-in-Pace.ensures.finds []) items)
+    λ items. rw c.in-Pace.is (finds_inside c.in-Pace.from c.in-Pace.until (counted (pace_gives c.in-Pace.rate)) c.args.state.now c.args.rest.now
+    c.look-in-Pace.result (sym c.is_outside-in-Pace.ensures ∙ c.if-is_outside-2.false) (c.look-in-Pace.ensures.finds []) items)
 
 pub returns-else-is_outside-3-clause-finds : goal.returns-else-is_outside-3-clause-finds
 returns-else-is_outside-3-clause-finds c =
     let giving = slicer_gives c.in-Slicing.average c.in-Slicing.variation c.in-Slicing.micros (draws_of c.args.drawing.now c.in-Slicing.lane) in
-    λ items. rw c.in-Slicing.is (finds_inside c.in-Slicing.from c.in-Slicing.until (counted giving) c.args.state.now c.args.rest.now c.look-in-Slicing.result (sym c.is_outside-in-Slicing.ensures ∙ c.if-is_outside-3.false) (c.look-in-Slicing.ensures.finds []) items)
+    λ items. rw c.in-Slicing.is (finds_inside c.in-Slicing.from c.in-Slicing.until (counted giving) c.args.state.now c.args.rest.now c.look-in-Slicing.result
+    (sym c.is_outside-in-Slicing.ensures ∙ c.if-is_outside-3.false) (c.look-in-Slicing.ensures.finds []) items)
 
 pub returns-in-Halt-clause-finds : goal.returns-in-Halt-clause-finds
 returns-in-Halt-clause-finds c = λ items. rw c.in-Halt.is (c.look-in-Halt.ensures.finds items)

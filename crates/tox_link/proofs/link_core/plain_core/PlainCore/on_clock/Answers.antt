@@ -12,8 +12,10 @@ pub returns : goal.returns
 returns c =
     let inside = c.self.inside in
     let piece = c.in-Some.piece in
-    let waits : (0 < piece.len) × (piece.instant ≤ inside.so_far.latest) = subst (λ waiting. IfSome waiting (λ piece. (0 < piece.len) × (piece.instant ≤ inside.so_far.latest))) c.in-Some.is c.self.invariant.waits in
-    let total : inside.given + piece.len ≡ inside.so_far.position = subst (λ waiting. inside.given + waiting_len waiting ≡ inside.so_far.position) c.in-Some.is c.self.invariant.total in
+    let waits : (0 < piece.len) × (piece.instant ≤ inside.so_far.latest) =
+    subst (λ waiting. IfSome waiting (λ piece. (0 < piece.len) × (piece.instant ≤ inside.so_far.latest))) c.in-Some.is c.self.invariant.waits in
+    let total : inside.given + piece.len ≡ inside.so_far.position = subst (λ waiting. inside.given + waiting_len waiting ≡ inside.so_far.position) c.in-Some.is
+    c.self.invariant.total in
     let later : inside.so_far.latest ≤ c.args.now = subst (λ core. core.latest ≤ c.args.now) (sym c.self.view_is) c.requires in
     let new = given_core inside.given c.args.now piece inside.end inside.so_far waits.0 waits.1 later total in
     let slice = given_slice inside.given c.args.now piece inside.end inside.so_far waits.0 waits.1 later total in

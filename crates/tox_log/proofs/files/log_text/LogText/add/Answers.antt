@@ -13,7 +13,8 @@ returns-clause-log g c = λ taken reported log.
     let grown = log-entry old.most old.taken reported text taken old.waiting.0 new.waiting.0 old.state (state_behind c.args.entry.now) new.state
     log.counted c.grow.ensures.adds c.grow.ensures.ended log.bytes in record {
       counted = log.counted ∙ sym c.grow.ensures.kept.0 ∙ ap (λ (log : LogText). log.taken) (sym c.call.ensures.kept);
-      bytes = log-of old.most c.call.new.self.most (reported ++ text) (taken ++ new.waiting.0) (taken ++ c.call.new.self.waiting.0) new.state c.call.new.self.state
+      bytes = log-of old.most c.call.new.self.most (reported ++ text) (taken ++ new.waiting.0) (taken ++ c.call.new.self.waiting.0) new.state
+          c.call.new.self.state
           (ap (λ (log : LogText). log.most) c.call.ensures.kept ∙ c.grow.ensures.kept.1)
           (ap (λ (log : LogText). taken ++ log.waiting.0) c.call.ensures.kept)
           (ap (λ (log : LogText). log.state) c.call.ensures.kept)

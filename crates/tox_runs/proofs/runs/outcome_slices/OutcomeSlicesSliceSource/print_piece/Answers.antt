@@ -17,7 +17,8 @@ stop_read inside piece len seen is = omega (arith, ap stop_of seen, inside.bytes
 pub lend-requires : goal.lend-requires
 lend-requires g c =
     let at = c.requires.next in
-    let joined = subst (λ stop. IsJoined stop c.loop-slice.self.left.now c.in-Some.slice c.next_before.new.self.left.now) (stop_read c.piece.inside c.args.piece.now c.len.result c.piece.view_is c.len.ensures) c.in-Some.ensures.some.0 in
+    let joined = subst (λ stop. IsJoined stop c.loop-slice.self.left.now c.in-Some.slice c.next_before.new.self.left.now)
+    (stop_read c.piece.inside c.args.piece.now c.len.result c.piece.view_is c.len.ensures) c.in-Some.ensures.some.0 in
     let printing = c.loop-slice.invariant.printing at in
     joined_lies at.arrived c.args.piece.now c.loop-slice.self.position c.loop-slice.self.left.now c.in-Some.slice c.next_before.new.self.left.now printing
     (joined.joins (arrival_list at.arrived.items) c.loop-slice.self.position printing.neighbours at.of.edge)
@@ -28,7 +29,8 @@ loop-slice-preserved g c =
     let old = c.loop-slice.self in
     let new = c.next_before.new.self in
     let slice = c.in-Some.slice in
-    let joined = subst (λ stop. IsJoined stop old.left.now slice new.left.now) (stop_read c.piece.inside c.args.piece.now c.len.result c.piece.view_is c.len.ensures) c.in-Some.ensures.some.0 in
+    let joined = subst (λ stop. IsJoined stop old.left.now slice new.left.now)
+    (stop_read c.piece.inside c.args.piece.now c.len.result c.piece.view_is c.len.ensures) c.in-Some.ensures.some.0 in
     let line = line_of_lent c.args.piece.now slice c.lend.result c.lend.ensures in
     record {
       working = c.in_ok-print_lent.ensures.leaves.1;
@@ -43,7 +45,8 @@ loop-slice-preserved g c =
           let after = starts_in at.arrived c.args.piece.now old.position old.left.now slice new.left.now printing joins in
           rw c.in-Some.ensures.some.1 (
           PrintsDownTo-then _ (on.printed at)
-          (pending_text-joined at.arrived c.args.piece.now old.position old.left.now slice new.left.now c.args.self.now.ending.now at.of after joins joined.apart)
+          (pending_text-joined at.arrived c.args.piece.now old.position old.left.now slice new.left.now c.args.self.now.ending.now at.of after joins
+          joined.apart)
           (rw line at c.in_ok-print_lent.ensures));
     }
 
@@ -53,7 +56,8 @@ returns-in_err-print_lent-clause-prints g c =
     let old = c.loop-slice.self in
     let new = c.next_before.new.self in
     let slice = c.in-Some.slice in
-    let joined = subst (λ stop. IsJoined stop old.left.now slice new.left.now) (stop_read c.piece.inside c.args.piece.now c.len.result c.piece.view_is c.len.ensures) c.in-Some.ensures.some.0 in
+    let joined = subst (λ stop. IsJoined stop old.left.now slice new.left.now)
+    (stop_read c.piece.inside c.args.piece.now c.len.result c.piece.view_is c.len.ensures) c.in-Some.ensures.some.0 in
     let line = line_of_lent c.args.piece.now slice c.lend.result c.lend.ensures in
     λ at.
     let printing = on.printing at in
@@ -69,4 +73,5 @@ returns-clause-stands g c =
     let old = c.loop-slice.self in
     let none = c.in_default.ensures.none in
     let behind = subst (λ stop. StartsBehind stop old.left.now) (stop_read c.piece.inside c.args.piece.now c.len.result c.piece.view_is c.len.ensures) none.2 in
-    rw (none.0, none.1) (IsPending-next at.arrived c.args.piece.now c.args.self.now.position old.position c.args.self.now.left.now old.left.now at.later at.before (c.loop-slice.invariant.printing at) behind)
+    rw (none.0, none.1) (IsPending-next at.arrived c.args.piece.now c.args.self.now.position old.position c.args.self.now.left.now old.left.now at.later
+    at.before (c.loop-slice.invariant.printing at) behind)

@@ -10,10 +10,12 @@ abbrev pub invariant-loop-slice : goal.invariant-loop-slice
 invariant-loop-slice g l = record {
   working : IsWorking g.W.Sink l.printer;
   ending : l.self.ending.now ≡ l.fn.self.ending.now;
-  printing : (at : IsAtPiece (λ arrived position items. IsPending l.fn.self.left.now l.fn.self.position arrived position items) l.piece) → IsPrinting at.arrived l.piece l.self.position l.self.left.now;
+  printing : (at : IsAtPiece (λ arrived position items. IsPending l.fn.self.left.now l.fn.self.position arrived position items) l.piece)
+      → IsPrinting at.arrived l.piece l.self.position l.self.left.now;
   printed : (at : IsAtPiece (λ arrived position items. IsPending l.fn.self.left.now l.fn.self.position arrived position items) l.piece)
       → PrintsDownTo g.W.Sink (Ok (tt {0})) l.fn.printer l.printer
-      (pending_text at.arrived l.fn.self.position l.fn.self.left.now l.fn.self.ending.now) (pending_text at.arrived l.self.position l.self.left.now l.fn.self.ending.now);
+      (pending_text at.arrived l.fn.self.position l.fn.self.left.now l.fn.self.ending.now)
+      (pending_text at.arrived l.self.position l.self.left.now l.fn.self.ending.now);
 }
 
 abbrev pub decreases-loop-slice : goal.decreases-loop-slice

@@ -6,7 +6,8 @@ use Rattle.tox_serve.proofs.workers.timers.Timers.pop_due.Goals as goal
 
 pub returns-clause-some : goal.returns-clause-some
 returns-clause-some c = let s = c.args.self.now in (
-  due_by _ c.in-Some.field-0.0 _ _ c.in_ok-next_due.ensures (omega (arith, c.if-branch-now.false)) (none_before c.in-Some.field-0 _ (c.in-Some.ensures.heap_order s.ordered).1),
+  due_by _ c.in-Some.field-0.0 _ _ c.in_ok-next_due.ensures (omega (arith, c.if-branch-now.false))
+      (none_before c.in-Some.field-0 _ (c.in-Some.ensures.heap_order s.ordered).1),
   record {
     timer = c.in-Some.field-0.0;
     due_then = refl;

@@ -7,7 +7,8 @@ pub returns-in-Some-Open : goal.returns-in-Some-Open
 returns-in-Some-Open g c =
     let link = c.in-Some-Open.link in
     let driven = with_value (with_value link c.take_turn.new.self) c.run_turn.new.link in
-    settled-open c.args.turn.key link driven _ _ _ _ (rw c.in-Some-Open.field-0-is at c.in-Some-Open.ensures.takes) c.in-Some-Open.ensures.leaves (rw c.run_turn.ensures.same at c.settle.ensures.settled) (λ settled. record {
+    settled-open c.args.turn.key link driven _ _ _ _ (rw c.in-Some-Open.field-0-is at c.in-Some-Open.ensures.takes) c.in-Some-Open.ensures.leaves
+    (rw c.run_turn.ensures.same at c.settle.ensures.settled) (λ settled. record {
       taken = c.take_turn.new.self;
       takes = rw c.deref_mut.ensures.value at c.take_turn.ensures;
       driven = driven;

@@ -19,8 +19,15 @@ returns g c =
     let delivered = shown outcome.slices (Some outcome.ending) in
     let below = received c.in_ok-consumer.consumer in
     let known = known_items c.slots_beside.new.self in
-    let ring : below ++ known ≡ items = cc (c.slots_beside.ensures.fifo, c.slots_beside.ensures.looked.1, c.slots_beside.ensures.producer.1, c.in_ok-consumer.ensures.sent.whole) in
-    let passes : PassesOn (reactions_of chain words) items delivered = from_ring (reactions_of chain words) items below known delivered c.in_ok-consumer.ensures.sent.stream ring (subst (λ toxics. Delivers (map (placed_reaction (chain_draws chain words)) toxics) below delivered) (c.deref.ensures.0 ∙ c.applied-toxics.ensures.value) (rw c.lanes.ensures at c.in_ok-consumer.ensures.delivered)) in
+    let ring : below ++ known ≡ items = cc (
+      c.slots_beside.ensures.fifo,
+      c.slots_beside.ensures.looked.1,
+      c.slots_beside.ensures.producer.1,
+      c.in_ok-consumer.ensures.sent.whole,
+    ) in
+    let passes : PassesOn (reactions_of chain words) items delivered = from_ring (reactions_of chain words) items below known delivered
+    c.in_ok-consumer.ensures.sent.stream ring (subst (λ toxics. Delivers (map (placed_reaction (chain_draws chain words)) toxics) below delivered)
+    (c.deref.ensures.0 ∙ c.applied-toxics.ensures.value) (rw c.lanes.ensures at c.in_ok-consumer.ensures.delivered)) in
     record {
       flow = outcome_shown outcome _ passes.flowed;
       neighbours = delivered_neighbours chain words items outcome c.applied-toxics.ensures.chain passes;
