@@ -1,9 +1,11 @@
 -- A log that grows by one event.
 use Rattle.std.proofs.Common.{◌≡◌, ℕ, ◌+◌, ◌<◌, ◌≤◌, ◌⊎◌, inl, inr, Bool, true, false, List, [], ◌∷◌, ◌++◌, length, take, Option, Some, None, replicate, refl}
+use Rattle.std.proofs.Common.{drop, sym, subst, append_assoc, ap, ◌∙◌, take-append-drop}
 use Rattle.std.proofs.Common.{ap, sym, ◌∙◌, subst, append_assoc, append-nil, add_assoc, add-zero, length-append, arith}
 use Rattle.std.specs.Prelude.{◌||◌}
 use Rattle.std.proofs.lemmas.List.{take-append-le, take_all, length-replicate}
 use Rattle.std.proofs.lemmas.Bool.{cases_lt}
+use Rattle.std.proofs.Math.Seq.{take-append_seam}
 use Rattle.tox_time.specs.declared.streams.slice.Slice.{Slice}
 use Rattle.tox_time.specs.declared.streams.item.Item.{Item}
 use Rattle.tox_time.specs.declared.streams.item.Item.TheVariants.{Chunk, Closed, Reset, Quiet}
@@ -145,6 +147,35 @@ faithful-append means reported log event faithful by says due ordered now = reco
   agrees = λ n. prefixes means log event faithful.agrees now n (cases_lt (length log) n);
   timely = timely-append reported 0 log event faithful.timely by (omega arith) says due;
   ordered = ordered;
+}
+
+timely-front : (reported : ℕ → Type 0) (since : ℕ) (front back : List LinkEvent) → IsTimely reported since (front ++ back) → IsTimely reported since front
+timely-front reported since [] back timely = tt
+timely-front reported since (event ∷ front) back timely = (timely.0, timely.1, timely.2, timely-front reported (reading_of event) front back timely.3)
+
+nothing-front : (front back : List LinkEvent) → HearsNothing (front ++ back) → HearsNothing front
+nothing-front [] back none = tt
+nothing-front (Piece len instant ∷ front) back none = none
+nothing-front (SourceEnd instant ∷ front) back none = none
+nothing-front (Wrote slice reading ∷ front) back none = nothing-front front back none
+
+ordered-front : (front back : List LinkEvent) → IsHeardInOrder (front ++ back) → IsHeardInOrder front
+ordered-front [] back ordered = tt
+ordered-front (Piece len instant ∷ front) back ordered = (ordered.0, ordered-front front back ordered.1)
+ordered-front (SourceEnd instant ∷ front) back ordered = nothing-front front back ordered
+ordered-front (Wrote slice reading ∷ front) back ordered = ordered-front front back ordered
+
+-- the front of a faithful log is faithful
+pub faithful-front : (means : List Item → List Item) (reported : ℕ → Type 0) (front back : List LinkEvent) → IsFaithful means reported (front ++ back)
+    → IsFaithful means reported front
+faithful-front means reported front back faithful = record {
+  agrees = λ n.
+      let whole : front ++ back ≡ take n front ++ (drop n front ++ back) = ap (λ events. events ++ back) (sym (take-append-drop n front))
+      ∙ append_assoc (take n front) (drop n front) back in
+      subst (Agrees means) (ap (take (length (take n front))) whole ∙ take-append_seam (take n front) (drop n front ++ back))
+      (faithful.agrees (length (take n front)));
+  timely = timely-front reported 0 front back faithful.timely;
+  ordered = ordered-front front back faithful.ordered;
 }
 
 pub events-none : (events : Option (List LinkEvent)) → events ≡ with_events events []

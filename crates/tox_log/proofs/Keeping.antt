@@ -10,7 +10,7 @@ use Rattle.tox_time.specs.declared.streams.item.Item.{Item}
 use Rattle.tox_time.specs.declared.streams.position.StreamPosition.{StreamPosition}
 use Rattle.tox_link.specs.declared.notes.LinkEvent.{LinkEvent}
 use Rattle.tox_link.specs.declared.notes.LinkEvent.TheVariants.{Piece, SourceEnd, Wrote}
-use Rattle.tox_link.specs.log.Log.{Agrees, HearsNothing, IsFaithful, IsHeardInOrder, IsTimely, reading_of}
+use Rattle.tox_link.specs.log.Log.{IsFaithful, reading_of}
 use Rattle.tox_log.specs.declared.event_line.LogLine.{LogLine}
 use Rattle.tox_log.specs.declared.event_line.LogLine.TheVariants.{Event, SourceReset, Last}
 use Rattle.tox_log.specs.declared.last_line.LastLine.TheVariants.{Ended, Broken}
@@ -26,6 +26,7 @@ use Rattle.tox_log.specs.Numbers.{Lacks}
 use Rattle.tox_log.specs.Order.{heard_with}
 use Rattle.tox_log.specs.Reading.{is_last}
 use Rattle.tox_log.specs.WrittenLog.{AreInOrder, WrittenLog, log_lines}
+use Rattle.tox_link.proofs.Logs.{faithful-front}
 use Rattle.tox_log.proofs.Cuts.{cut-once, stands}
 use Rattle.tox_log.proofs.LineBytes.{line-feedless}
 use Rattle.tox_log.proofs.ReadsBack.{same-line}
@@ -99,37 +100,6 @@ none-behind : (reset : Bool) (events : List LinkEvent) (line : LogLine) (rest : 
     → AreInOrder heard (map (logged_line reset) events ++ line ∷ rest) → is_last line ≡ true → rest ≡ []
 none-behind reset [] line rest heard order last = order.2 last
 none-behind reset (event ∷ events) line rest heard order last = none-behind reset events line rest (heard_with heard (logged_line reset event)) order.3 last
-
--- The front of a faithful log
-
-timely-front : (reported : ℕ → Type 0) (since : ℕ) (front back : List LinkEvent) → IsTimely reported since (front ++ back) → IsTimely reported since front
-timely-front reported since [] back timely = tt
-timely-front reported since (event ∷ front) back timely = (timely.0, timely.1, timely.2, timely-front reported (reading_of event) front back timely.3)
-
-nothing-front : (front back : List LinkEvent) → HearsNothing (front ++ back) → HearsNothing front
-nothing-front [] back none = tt
-nothing-front (Piece len instant ∷ front) back none = none
-nothing-front (SourceEnd instant ∷ front) back none = none
-nothing-front (Wrote slice reading ∷ front) back none = nothing-front front back none
-
-ordered-front : (front back : List LinkEvent) → IsHeardInOrder (front ++ back) → IsHeardInOrder front
-ordered-front [] back ordered = tt
-ordered-front (Piece len instant ∷ front) back ordered = (ordered.0, ordered-front front back ordered.1)
-ordered-front (SourceEnd instant ∷ front) back ordered = nothing-front front back ordered
-ordered-front (Wrote slice reading ∷ front) back ordered = ordered-front front back ordered
-
--- it is faithful too
-pub faithful-front : (means : List Item → List Item) (reported : ℕ → Type 0) (front back : List LinkEvent) → IsFaithful means reported (front ++ back)
-    → IsFaithful means reported front
-faithful-front means reported front back faithful = record {
-  agrees = λ n.
-      let whole : front ++ back ≡ take n front ++ (drop n front ++ back) = ap (λ events. events ++ back) (sym (take-append-drop n front))
-      ∙ append_assoc (take n front) (drop n front) back in
-      subst (Agrees means) (ap (take (length (take n front))) whole ∙ take-append_seam (take n front) (drop n front ++ back))
-      (faithful.agrees (length (take n front)));
-  timely = timely-front reported 0 front back faithful.timely;
-  ordered = ordered-front front back faithful.ordered;
-}
 
 -- so no line of a link is refused
 module _ (means : List Item → List Item) (reported : ℕ → Bool) (lines : List LogLine) (heard : StreamPosition) (order : AreInOrder heard lines)

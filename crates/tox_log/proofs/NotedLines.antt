@@ -36,7 +36,8 @@ use Rattle.tox_log.specs.NotedLines.{AreNoted, broken_lines, ended_lines}
 use Rattle.tox_log.specs.Order.{heard_with}
 use Rattle.tox_log.specs.Reading.{is_last}
 use Rattle.tox_log.specs.WrittenLog.{AreInOrder}
-use Rattle.tox_log.proofs.Keeping.{events-of, faithful-front, logged-goes}
+use Rattle.tox_link.proofs.Logs.{faithful-front}
+use Rattle.tox_log.proofs.Keeping.{events-of, logged-goes}
 
 -- What may still be heard, where the source has ended or not
 abbrev HearsOn : Bool → List LinkEvent → Type 0
@@ -235,7 +236,7 @@ noted-ended reported instants means reset events taken written reading last sour
           (omega (arith, of_heard.few)) gapless report.by (omega arith));
       linked = λ other same.
           let here : events_in (map (logged_line reset) events ++ line ∷ []) ≡ events = events-behind reset events (line ∷ []) refl in
-          let reported : IsReported other (λ reading. true) events reading last
+          let ending_is : IsReported other (λ reading. true) events reading last
           = record {
             taken = taken;
             written = written;
@@ -246,7 +247,7 @@ noted-ended reported instants means reset events taken written reading last sour
           record {
             faithful = subst (IsFaithful other (λ t. true ≡ true)) (sym here) (faithful-other reported instants means other same events report.faithful);
             reported = λ at end has. subst (λ events. IsReported other (λ reading. true) events at end) (sym here)
-                (is-last (IsReported other (λ reading. true) events) at end reported
+                (is-last (IsReported other (λ reading. true) events) at end ending_is
                 (Contains-push_cases (map (logged_line reset) events) line (Last (Ended at end)) has));
           };
       shallow = subst (IsShallowBehind []) (sym (events-behind reset events (line ∷ []) refl)) of_heard.shallow;

@@ -29,9 +29,9 @@ pub record IsReported (means : List Item → List Item) (reported : ℕ → Bool
   pub report : ReportsAt means (λ t. reported t ≡ true) events taken written last source reading
 
 -- lines that a link writes: their events are faithful, and an ending among them is what it reports
-pub record AreLinkLines (means : List Item → List Item) (reported : ℕ → Bool) (lines : List LogLine) : Type 0 where
-  pub faithful : IsFaithful means (λ t. reported t ≡ true) (events_in lines)
-  pub reported : (reading : ℕ) (last : Ending) → Contains lines (Last (Ended reading last)) → IsReported means reported (events_in lines) reading last
+pub record AreLinkLines (means : List Item → List Item) (readings : ℕ → Bool) (lines : List LogLine) : Type 0 where
+  pub faithful : IsFaithful means (λ t. readings t ≡ true) (events_in lines)
+  pub reported : (reading : ℕ) (last : Ending) → Contains lines (Last (Ended reading last)) → IsReported means readings (events_in lines) reading last
 
 -- whatever means what the chain does with the words of the link's stream, the lines are a link's under it
 pub record IsLinkLog (log : WrittenLog) : Type 0 where

@@ -78,7 +78,7 @@ one-file a b place other number count one two place_fits other_fits number_fits 
     let parts = parts-once (proxy_part a place) (proxy_part b other) number count one two number_fits count_fits same in
     (parts.1, parts.2, by_shape (suits_file a) (suits_file b) refl refl parts.0)
   where
-    by_shape : (named other : Bool) → suits_file a ≡ named → suits_file b ≡ other
+    by_shape : (named suited : Bool) → suits_file a ≡ named → suits_file b ≡ suited
         → (if suits_file a then a else codes "@" ++ decimal place) ≡ (if suits_file b then b else codes "@" ++ decimal other) → (a ≡ b) ⊎ (place ≡ other)
     by_shape true true first second equal =
         inl (sym (ap (λ test. if test then a else codes "@" ++ decimal place) first) ∙ equal
