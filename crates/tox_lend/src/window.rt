@@ -1,5 +1,5 @@
 //! The pieces that are still needed: a ring of neighbours with fixed room.
-ghost use Rattle.std.specs.Prelude.{◌≡◌, ◌<◌, ◌≤◌, ◌^◌, ◌↔◌, [], ◌∷◌, ◌++◌, drop, filter, find, length, nat_lt, nat_le, slice_get, true, false, IfOk, IfSome, IfNone, IsTrue, option_copied};
+ghost use Rattle.std.specs.Prelude.{◌≡◌, ◌+◌, ◌<◌, ◌≤◌, ◌^◌, ◌↔◌, [], ◌∷◌, ◌++◌, drop, filter, find, length, nat_lt, nat_le, slice_get, true, false, IfOk, IfSome, IfNone, IsTrue, option_copied};
 ghost use Rattle.std.specs.List.Sorted.{IsPartitionPoint};
 ghost use Rattle.tox_lend.specs.Run.{stop_of};
 ghost use Rattle.tox_lend.specs.Window.{JoinUpTo, has_position};
@@ -51,6 +51,13 @@ impl Window {
         ensures few { length self.now.held ≤ self.now.room }
     {
         self.held.len() < self.room
+    }
+
+    /// How many pieces it has room for beside those that it holds.
+    pub fn room_left(&self) -> usize
+        ensures { result + length self.now.held ≡ self.now.room }
+    {
+        self.room - self.held.len()
     }
 
     /// Where the next piece must start: where the last one stopped, or 0 if none was added yet.
