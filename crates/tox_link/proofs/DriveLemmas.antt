@@ -3,84 +3,64 @@ use Rattle.std.proofs.Common.{◌≡◌, ℕ, ◌+◌, ◌≤◌, inl, inr, ◌�
 use Rattle.std.proofs.Common.{refl, ap, ◌∙◌, sym, subst, append_assoc, append-nil, arith}
 use Rattle.std.specs.Io.KnownBytes.{append_known, prepend_known}
 use Rattle.std.proofs.lemmas.List.{take-append-drop}
-use Rattle.std.specs.Prelude.{is_some, IfSome, slice_get, ◌||◌, Result, Ok, Err, nat_le, if◌then◌else◌}
-use Rattle.std.proofs.lemmas.Bool.{leb-true}
-use Rattle.tox_time.specs.declared.streams.ending.Ending.{Ending}
-use Rattle.tox_time.specs.declared.streams.ending.Ending.TheVariants.{StillOpen, Closed as ClosedAt, Reset as ResetAt}
+use Rattle.std.specs.Prelude.{is_some, IfSome, slice_get, ◌||◌, Result, Ok, Err, if◌then◌else◌}
 use Rattle.tox_time.specs.declared.streams.item.Item.{Item}
 use Rattle.tox_time.specs.declared.streams.slice.Slice.{Slice}
 use Rattle.tox_time.specs.declared.streams.item.Item.TheVariants.{Quiet}
 use Rattle.tox_compile.specs.Meaning.{deadline_of}
+use Rattle.arrayvec.specs.ArrayVec.{ArrayVec}
 use Rattle.tox_link.specs.declared.direction.polled_link.PolledLink.{PolledLink}
 use Rattle.tox_link.specs.declared.direction.unwritten.Unwritten.{Unwritten}
 use Rattle.tox_link.specs.declared.link_core.act.Act.{Act}
 use Rattle.tox_link.specs.declared.link_core.act.Act.TheVariants.{Write, WaitUntil, WaitForInput, End}
 use Rattle.tox_link.specs.declared.notes.LinkEvent.{LinkEvent}
-use Rattle.tox_link.specs.declared.notes.LinkEvent.TheVariants.{Wrote}
 use Rattle.tox_link.specs.steps.Held.{AreOf}
 use Rattle.tox_link.specs.direction.Driven.{EndsView, Drove, IsReady, KeepsDone, done_of, moved_of, begun_by, steps_of_act, steps_of_move}
 use Rattle.tox_link.specs.direction.Follows.{unsaid, IsUpTo, IsHeld, IsNew, Follows, Drives, WritesOn, AreLeftOver}
-use Rattle.tox_link.specs.link_core.Acts.{Answered, After, Says, end_act, idle_act, wait_act}
+use Rattle.tox_link.specs.link_core.Acts.{Answered, After, Says, idle_act, wait_act}
 use Rattle.tox_link.specs.link_core.Core.{CoreView, KeepsCore, LeavesOutput, remaining_output, next_instant, core_ending, core_deadline, core_position}
 use Rattle.tox_link.specs.log.Carried.{Carried, KeepsCarried, noted_of}
 use Rattle.tox_link.specs.log.Events.{with_events}
-use Rattle.tox_link.specs.log.Log.{has_source_end, heard, heard_bytes, said, IsFaithful, SaysHeard}
-use Rattle.tox_link.specs.log.Logged.{IsCutOff, IsReached}
+use Rattle.tox_link.specs.log.Log.{has_source_end, said, IsFaithful}
+use Rattle.tox_link.specs.log.Logged.{IsCutOff}
 use Rattle.tox_link.specs.Reports.{WritesFirst}
 use Rattle.tox_time.specs.streams.Stream.{IsStream}
-use Rattle.tox_time.specs.streams.Table.{table, slices_table}
-use Rattle.tox_plan.proofs.Deliveries.{slices_table-append}
-use Rattle.std.proofs.Math.Seq.{take-nil}
+use Rattle.tox_time.specs.streams.Table.{table}
+use Rattle.std.proofs.Math.Seq.{take-add, take-nil}
 use Rattle.tox_link.specs.ring.Messages.{IsUnsent, EndsFor, HandsOn}
 use Rattle.tox_link.specs.declared.ring.message.ReadEnd.{ReadEnd}
 use Rattle.tox_link.specs.Sources.{read_end_of}
 use Rattle.tox_link.proofs.CarryLemmas.{append-nothing, prepend-nil}
-use Rattle.tox_link.proofs.FollowLemmas.{bare, clad, drives-ended, unsent-none}
-use Rattle.tox_link.proofs.Depths.{shallow-front}
-use Rattle.tox_link.proofs.Sizes.{small-front}
+use Rattle.tox_link.proofs.FollowLemmas.{clad, drives-ended, unsent-none}
+use Rattle.tox_link.proofs.UnwrittenLemmas.{heard-unsaid, heard_bytes-unsaid, joined-append, said-of_heard, unsaid-append, unsaid-open}
 use Rattle.tox_link.proofs.StepLemmas.{start-carried, says-heard}
 use Rattle.tox_link.proofs.LoggedLemmas.{said-within}
-use Rattle.tox_link.proofs.Logs.{heard-wrote, heard_bytes-append, said-append, end-same, events-append, events-none, has_source_end-append}
+use Rattle.tox_link.proofs.Logs.{end-same, faithful-front, events-append, events-none, has_source_end-append}
 use Rattle.tox_link.proofs.Sent.{prepend_more}
 use Rattle.tox_link.proofs.SideLemmas.{unknown-before}
-
--- an event behind others is all that is still to be noted of a slice: there are no others
-alone : (more : List LinkEvent) (event : LinkEvent) (slice : Option Unwritten) → more ++ event ∷ [] ≡ unsaid slice → more ≡ []
-alone [] event slice same = refl
-alone (first ∷ more) event None same = absurd (cc)
-alone (first ∷ []) event (Some unwritten) same = absurd (cc)
-alone (first ∷ second ∷ more) event (Some unwritten) same = absurd (cc)
-
--- no source's end is noted of a slice
-unsaid-open : (slice : Option Unwritten) → has_source_end (unsaid slice) ≡ false
-unsaid-open None = refl
-unsaid-open (Some unwritten) = refl
 
 left-false : (b c : Bool) → (b || c) ≡ false → b ≡ false
 left-false true c none = cc
 left-false false c none = refl
 
--- what was noted is faithful, where what was still to be noted of the slice is so
-noted-faithful : (means : List Item → List Item) (reported : ℕ → Type 0) (log more : List LinkEvent) (old new : Option Unwritten)
-    → more ++ unsaid new ≡ unsaid old → IsFaithful means reported log → IsFaithful means reported (log ++ unsaid old)
-    → IsFaithful means reported (log ++ more)
-noted-faithful means reported log more old None same before after = subst (λ said. IsFaithful means reported (log ++ said)) (sym same ∙ append-nil more) after
-noted-faithful means reported log more old (Some unwritten) same before after =
-    subst (IsFaithful means reported) (sym (append-nil log) ∙ ap (λ more. log ++ more) (sym (alone more (Wrote unwritten.slice unwritten.reading) old same)))
-    before
+-- what was noted is faithful, where what was still to be noted of the slices is so
+noted-faithful : (means : List Item → List Item) (reported : ℕ → Type 0) (log more : List LinkEvent) (old new : List Unwritten)
+    → more ++ unsaid new ≡ unsaid old → IsFaithful means reported (log ++ unsaid old) → IsFaithful means reported (log ++ more)
+noted-faithful means reported log more old new same after = faithful-front means reported (log ++ more) (unsaid new)
+    (subst (IsFaithful means reported) (ap (λ said. log ++ said) (sym same) ∙ sym (append_assoc log more (unsaid new))) after)
 
--- a slice is written on
+-- slices are written on
 pub writes-follow : (reported : ℕ → Type 0) (old new : PolledLink) (written written_after : Option (List ℕ)) (more : List LinkEvent)
     → WritesOn old written more new written_after → Drives reported old written [] more new written_after
 writes-follow reported old new written written_after more on means log came before follows =
     let same : came ++ [] ≡ came = append-nil came in
-    let none : has_source_end more ≡ false = left-false (has_source_end more) (has_source_end (unsaid new.unwritten))
-    (sym (has_source_end-append more (unsaid new.unwritten)) ∙ ap has_source_end on.noted ∙ unsaid-open old.unwritten) in
+    let none : has_source_end more ≡ false = left-false (has_source_end more) (has_source_end (unsaid new.unwritten.items))
+    (sym (has_source_end-append more (unsaid new.unwritten.items)) ∙ ap has_source_end on.noted ∙ unsaid-open old.unwritten.items) in
     let bytes : new.core.bytes ≡ old.core.bytes = ap (λ (core : CoreView). core.bytes) on.core in
     record {
-      carried = subst (Carried means reported new.core) (ap (λ said. log ++ said) (sym on.noted) ∙ sym (append_assoc log more (unsaid new.unwritten)))
-          (subst (λ core. Carried means reported core (log ++ unsaid old.unwritten)) (sym on.core) follows.carried);
-      faithful = noted-faithful means reported log more old.unwritten new.unwritten on.noted follows.faithful follows.carried.faithful;
+      carried = subst (Carried means reported new.core) (ap (λ said. log ++ said) (sym on.noted) ∙ sym (append_assoc log more (unsaid new.unwritten.items)))
+          (subst (λ core. Carried means reported core (log ++ unsaid old.unwritten.items)) (sym on.core) follows.carried);
+      faithful = noted-faithful means reported log more old.unwritten.items new.unwritten.items on.noted follows.carried.faithful;
       closed = end-same log more none ∙ follows.closed ∙ ap (λ source. is_some (read_end_of source)) (sym on.source);
       parts = subst (λ came. AreOf came new.window.held) (sym same) (on.parts came follows.parts);
       few = let long = ap length same in omega (arith, long, bytes, follows.few);
@@ -105,16 +85,13 @@ abbrev shut_of : Bool → ℕ
 shut_of ended = if ended then 1 else 0
 
 -- the core answered so
-module _ (link : PolledLink) (core : CoreView) (now : ℕ) (held : IsHeld link) (idle : link.unwritten ≡ None) (kept : KeepsCore link.core core) where
+module _ (link : PolledLink) (core : CoreView) (now : ℕ) (held : IsHeld link) (kept : KeepsCore link.core core) where
   abbrev pub asked : Act → PolledLink
-  asked act = record link { core = core; unwritten = begun_by act now }
+  asked act = record link { core = core; unwritten = record { items = link.unwritten.items ++ begun_by act now } }
 
-  at : link.written ≡ core_position link.core
-  at = subst (λ slice. IsUpTo slice link.written (core_position link.core)) idle held.up_to
-
-  held-with : (unwritten : Option Unwritten) → core_position core ≤ core.bytes → IsUpTo unwritten link.written (core_position core)
-      → IsHeld (record link { core = core; unwritten = unwritten })
-  held-with unwritten within up_to = record {
+  held-with : (slices : List Unwritten) → core_position core ≤ core.bytes → IsUpTo slices link.written (core_position core)
+      → IsHeld (record link { core = core; unwritten = record { items = slices } })
+  held-with slices within up_to = record {
     stop = held.stop ∙ sym kept.bytes;
     joined = held.joined;
     start = held.start;
@@ -125,15 +102,22 @@ module _ (link : PolledLink) (core : CoreView) (now : ℕ) (held : IsHeld link) 
     unheard = held.unheard;
   }
 
-  held-waited : LeavesOutput link.core core now → IsHeld (record link { core = core; unwritten = None })
-  held-waited leaves = held-with None (omega (arith, leaves.position, held.within, kept.bytes)) (at ∙ sym leaves.position)
+  held-waited : LeavesOutput link.core core now → IsHeld (record link { core = core; unwritten = record { items = link.unwritten.items ++ [] } })
+  held-waited leaves = held-with (link.unwritten.items ++ []) (omega (arith, leaves.position, held.within, kept.bytes))
+      (subst (λ slices. IsUpTo slices link.written (core_position core)) (sym (append-nil link.unwritten.items))
+      (subst (IsUpTo link.unwritten.items link.written) (sym leaves.position) held.up_to))
 
   pub held-asked : (act : Act) → After link.core now act core → IsHeld (asked act)
-  held-asked (Write slice) (due, takes) = held-with (Some (record { slice = slice; reading = now })) (omega (arith, takes.stops, takes.arrived)) (
-    sym takes.stops,
-    omega (arith, takes.starts, at),
-    omega (arith, takes.starts, takes.stops, takes.within.some, at),
-  )
+  held-asked (Write slice) (due, takes) =
+      let up_to = held.up_to in
+      let joined = joined-append (core_position link.core) (core_position core) link.unwritten.items (record { slice = slice; reading = now }) up_to.joined
+      takes.starts takes.within.some (sym takes.stops) in
+      held-with (link.unwritten.items ++ record { slice = slice; reading = now } ∷ []) (omega (arith, takes.stops, takes.arrived))
+      (record {
+        joined = joined.0;
+        from_start = omega (arith, joined.1, up_to.from_start);
+        to_position = omega (arith, up_to.to_position, takes.starts, takes.stops, takes.within.some);
+      })
   held-asked (WaitUntil t) (before, leaves) = held-waited leaves
   held-asked WaitForInput leaves = held-waited leaves
   held-asked (End last) leaves = held-waited leaves
@@ -153,15 +137,21 @@ module _ (link : PolledLink) (core : CoreView) (now : ℕ) (held : IsHeld link) 
         omega arith;
   }
 
+  -- the slice that is given is noted behind the others
+  said-on : (log : List LinkEvent) (act : Act)
+      → (log ++ unsaid link.unwritten.items) ++ noted_of act now ≡ (log ++ []) ++ unsaid (link.unwritten.items ++ begun_by act now)
+  said-on log act = append_assoc log (unsaid link.unwritten.items) (noted_of act now)
+      ∙ ap (λ said. log ++ (unsaid link.unwritten.items ++ said)) (sym (unsaid-noted act now))
+      ∙ ap (λ said. log ++ said) (sym (unsaid-append link.unwritten.items (begun_by act now)))
+      ∙ ap (λ log. log ++ unsaid (link.unwritten.items ++ begun_by act now)) (sym (append-nil log))
+
   pub drives-asked : (reported : ℕ → Type 0) (act : Act) (known : Option (List ℕ)) → KeepsCarried reported link.core (noted_of act now) core
       → Drives reported link known [] [] (asked act) known
   drives-asked reported act known keeps means log came before follows =
       let same : came ++ [] ≡ came = append-nil came in
       let none : log ++ [] ≡ log = append-nil log in
       record {
-        carried = subst (λ logged. Carried means reported core (logged ++ unsaid (begun_by act now))) (sym none)
-            (subst (λ said. Carried means reported core (log ++ said)) (sym (unsaid-noted act now))
-            (keeps means log (bare means reported link.core link.unwritten log idle follows.carried)));
+        carried = subst (Carried means reported core) (said-on log act) (keeps means (log ++ unsaid link.unwritten.items) follows.carried);
         faithful = subst (IsFaithful means reported) (sym none) follows.faithful;
         closed = ap has_source_end none ∙ follows.closed;
         parts = subst (λ came. AreOf came link.window.held) (sym same) follows.parts;
@@ -225,49 +215,19 @@ drove-then reported first second a b c before between after one two = record {
       omega (arith, one.work, two.work, bytes, more);
 }
 
--- what is still to be noted of a slice is not heard
-heard-unsaid : (log : List LinkEvent) (slice : Option Unwritten) → heard (log ++ unsaid slice) ≡ heard log
-heard-unsaid log None = ap heard (append-nil log)
-heard-unsaid log (Some unwritten) = heard-wrote 0 log unwritten.slice unwritten.reading (Quiet ∷ [])
-
-pub written-up_to : (slice : Option Unwritten) (written position : ℕ) → IsUpTo slice written position → written ≤ position
-written-up_to None written position up_to = omega (arith, up_to)
-written-up_to (Some unwritten) written position up_to = up_to.2
-
-heard_bytes-unsaid : (log : List LinkEvent) (slice : Option Unwritten) → heard_bytes (log ++ unsaid slice) ≡ heard_bytes log
-heard_bytes-unsaid log None = ap heard_bytes (append-nil log)
-heard_bytes-unsaid log (Some unwritten) = let more = heard_bytes-append log (Wrote unwritten.slice unwritten.reading ∷ []) in omega (arith, more)
-
--- the slice that is being written is of bytes that were heard
-said-of_heard : (log : List LinkEvent) (slice : Option Unwritten) → SaysHeard (log ++ unsaid slice) → SaysHeard log
-said-of_heard log None all = subst SaysHeard (append-nil log) all
-said-of_heard log (Some unwritten) all =
-    let more = Wrote unwritten.slice unwritten.reading ∷ [] in
-    let heard_is = heard_bytes-append log more in
-    let said_is = ap (λ slices. length (slices_table slices)) (said-append log more) ∙ ap length (slices_table-append (said log) (said more))
-    ∙ length-append (slices_table (said log)) (slices_table (said more)) in
-    record {
-      few = omega (arith, heard_is, all.few);
-      heard = omega (arith, heard_is, said_is, all.heard);
-      shallow = shallow-front [] log _ all.shallow;
-      small =
-          small-front log _ all.small;
-    }
-
 -- a direction that broke off
 pub cut-follows : (means : List Item → List Item) (reported : ℕ → Type 0) (link : PolledLink) (log : List LinkEvent) (came : List ℕ)
     (before after : Option (List ℕ)) → IsHeld link → Follows means reported link log came before after
     → IsCutOff means reported link.written log
 cut-follows means reported link log came before after held follows =
-    let within = said-within means reported link.core (log ++ unsaid link.unwritten) follows.carried in
-    let same = ap (λ items. length (table (means items))) (heard-unsaid log link.unwritten) in
-    let up_to = written-up_to link.unwritten link.written (core_position link.core) held.up_to in
-    let heard_is = heard_bytes-unsaid log link.unwritten in
+    let within = said-within means reported link.core (log ++ unsaid link.unwritten.items) follows.carried in
+    let same = ap (λ items. length (table (means items))) (heard-unsaid log link.unwritten.items) in
+    let heard_is = heard_bytes-unsaid log link.unwritten.items in
     record {
       faithful = follows.faithful;
-      few = omega (arith, within, same, up_to);
-      of_heard = said-of_heard log link.unwritten (says-heard means reported link.core (log ++ unsaid link.unwritten) follows.carried);
-      within = omega (arith, up_to, held.within, heard_is, follows.carried.bytes);
+      few = omega (arith, within, same, held.up_to.to_position);
+      of_heard = said-of_heard log link.unwritten.items (says-heard means reported link.core (log ++ unsaid link.unwritten.items) follows.carried);
+      within = omega (arith, held.up_to.to_position, held.within, heard_is, follows.carried.bytes);
     }
 
 -- it wrote the first bytes of those that came
@@ -275,8 +235,7 @@ pub writes-came : (link : PolledLink) (given before after left : Option (List �
     → given ≡ prepend_known came left → after ≡ append_known before (take link.written came)
     → WritesFirst given before after came link.written
 writes-came link given before after left came held few gave wrote =
-    let within = written-up_to link.unwritten link.written (core_position link.core) held.up_to in
-    record { left = left; gave = gave; few = omega (arith, within, held.within, few); wrote = wrote }
+    record { left = left; gave = gave; few = omega (arith, held.up_to.to_position, held.within, few); wrote = wrote }
 
 -- how the source ended, where the direction learnt of it in time
 pub hands-on : (source : Option ReadEnd) (given left : Option (List ℕ)) (taken : ℕ) (came : List ℕ) → given ≡ prepend_known came left
@@ -326,7 +285,7 @@ drove-less least fewer reported old new before after few drove =
 
 -- a drive that moved so much, or cut so often, took as many steps as one may take at most
 pub drove-enough : (steps : ℕ) (reported : ℕ → Type 0) (old new : PolledLink) (before after : EndsView)
-    → (moved_of old + 131_072 ≤ moved_of new) ⊎ (old.core.runner.cuts + 4_096 ≤ new.core.runner.cuts) → Drove steps reported old before new after
+    → (moved_of old + 81_920 ≤ moved_of new) ⊎ (old.core.runner.cuts + 4_096 ≤ new.core.runner.cuts) → Drove steps reported old before new after
     → Drove 32 reported old before new after
 drove-enough steps reported old new before after enough drove =
     record {
@@ -340,7 +299,7 @@ drove-enough steps reported old new before after enough drove =
       work = work enough;
     }
   where
-    work : (moved_of old + 131_072 ≤ moved_of new) ⊎ (old.core.runner.cuts + 4_096 ≤ new.core.runner.cuts)
+    work : (moved_of old + 81_920 ≤ moved_of new) ⊎ (old.core.runner.cuts + 4_096 ≤ new.core.runner.cuts)
         → done_of old + 32 ≤ done_of new + length drove.bytes + length drove.more
     work (inl moved) = omega (arith, moved, drove.taken, drove.kept.found, drove.kept.cuts, drove.kept.written, drove.kept.ended)
     work (inr cut) = omega (arith, cut, drove.kept.found, drove.kept.cuts, drove.kept.written, drove.kept.ended)
@@ -393,21 +352,22 @@ says-asked old core now act (Some t) answered is = let same : Answered old core 
 
 -- the core was asked
 pub drove-asked : (reported : ℕ → Type 0) (link new : PolledLink) (core : CoreView) (now : ℕ) (act : Act) (left known : Option (List ℕ))
-    (events : Option (List LinkEvent)) → IsHeld link → link.unwritten ≡ None → Answered link.core core now act
-    → KeepsCarried reported link.core (noted_of act now) core → new ≡ record link { core = core; unwritten = begun_by act now }
+    (events : Option (List LinkEvent)) → IsHeld link → Answered link.core core now act
+    → KeepsCarried reported link.core (noted_of act now) core
+    → new ≡ record link { core = core; unwritten = record { items = link.unwritten.items ++ begun_by act now } }
     → Drove (steps_of_act act) reported link (record { remaining = left; written = known; events = events }) new
     (record { remaining = left; written = known; events = events })
-drove-asked reported link new core now act left known events held idle answered keeps same = record {
+drove-asked reported link new core now act left known events held answered keeps same = record {
   bytes = [];
   more = [];
   read = prepend-nil left;
   noted = events-none events;
   follows = subst (λ (new : PolledLink). Drives reported link known [] [] new known) (sym same)
-      (drives-asked link core now held idle answered.kept reported act known keeps);
-  kept = subst (KeepsDone link) (sym same) (done-asked link core now held idle answered.kept act answered.output);
+      (drives-asked link core now held answered.kept reported act known keeps);
+  kept = subst (KeepsDone link) (sym same) (done-asked link core now held answered.kept act answered.output);
   taken = let bytes = ap (λ (link : PolledLink). link.core.bytes) same in omega (arith, bytes, answered.kept.bytes);
   work =
-      let found = work-asked link core now held idle answered.kept act answered.output in
+      let found = work-asked link core now held answered.kept act answered.output in
       let position = ap (λ (link : PolledLink). core_position link.core) same in
       let cuts = ap (λ (link : PolledLink). link.core.runner.cuts) same in
       let written = ap (λ (link : PolledLink). link.written) same in
@@ -415,8 +375,14 @@ drove-asked reported link new core now act left known events held idle answered 
       omega (arith, found, position, cuts, answered.kept.cuts, written, ended);
 }
 
+-- only the core and the slices change
+pub same-on : (first old new : PolledLink) (slices : ArrayVec Unwritten) → old ≡ record first { core = old.core; unwritten = old.unwritten }
+    → new ≡ record old { core = new.core; unwritten = slices } → new ≡ record first { core = new.core; unwritten = new.unwritten }
+same-on first old new slices one two = two ∙ ap (λ (old : PolledLink). record old { core = new.core; unwritten = slices }) one
+    ∙ ap (λ slices. record first { core = new.core; unwritten = slices }) (sym (ap (λ (link : PolledLink). link.unwritten) two))
+
 -- an answer that gives no slice
-pub none-begun : (act : Act) (now : ℕ) → ((slice : Slice) → act ≡ Write slice → ⊥) → begun_by act now ≡ None
+pub none-begun : (act : Act) (now : ℕ) → ((slice : Slice) → act ≡ Write slice → ⊥) → begun_by act now ≡ []
 none-begun (Write slice) now never = absurd (never slice refl)
 none-begun (WaitUntil t) now never = refl
 none-begun WaitForInput now never = refl
@@ -438,31 +404,33 @@ drove-took reported link new bytes left known events noted more said follows kep
 
 -- the source ended, or nothing more is read
 module _ (reported : ℕ → Type 0) (link new : PolledLink) (bytes : List ℕ) (left known : Option (List ℕ)) (events noted : Option (List LinkEvent))
-    (held : IsHeld link) (idle : link.unwritten ≡ None) (going : link.ended ≡ false)
-    (window : new.window ≡ link.window) (unwritten : new.unwritten ≡ link.unwritten) (ended : new.ended ≡ true) (written : new.written ≡ link.written) where
-  pub drove-ended : (more : List LinkEvent) → new.core.bytes ≡ link.core.bytes → core_position new.core ≡ core_position link.core
-      → link.core.runner.cuts ≤ new.core.runner.cuts → noted ≡ with_events events more → KeepsCarried reported link.core more new.core
-      → has_source_end more ≡ is_some (read_end_of new.source) → (core_ending link.core ≡ None → AreLeftOver link new.source bytes)
-      → ((core_ending link.core ≡ None → ⊥) → read_end_of new.source ≡ None)
-      → Drove 1 reported link (record { remaining = prepend_known bytes left; written = known; events = events }) new
-      (record { remaining = left; written = known; events = noted })
-  drove-ended more counts position cuts said keeps says over late =
-      let before = ap shut_of going in
-      let after = ap shut_of ended in
-      drove-took reported link new bytes left known events noted more said
-      (drives-ended link new held idle counts position window unwritten ended written reported more bytes known going keeps says over late)
-      (record { found = omega (arith, position); cuts = cuts; written = omega (arith, written); ended = omega (arith, before, after) }) (omega (arith, counts))
-      (omega (arith, position, cuts, written, before, after))
+    (held : IsHeld link) (idle : link.unwritten.items ≡ []) (going : link.ended ≡ false)
+    (window : new.window ≡ link.window) (items : new.unwritten.items ≡ link.unwritten.items) (ended : new.ended ≡ true) (written : new.written ≡ link.written)
+  where
+    pub drove-ended : (more : List LinkEvent) → new.core.bytes ≡ link.core.bytes → core_position new.core ≡ core_position link.core
+        → link.core.runner.cuts ≤ new.core.runner.cuts → noted ≡ with_events events more → KeepsCarried reported link.core more new.core
+        → has_source_end more ≡ is_some (read_end_of new.source) → (core_ending link.core ≡ None → AreLeftOver link new.source bytes)
+        → ((core_ending link.core ≡ None → ⊥) → read_end_of new.source ≡ None)
+        → Drove 1 reported link (record { remaining = prepend_known bytes left; written = known; events = events }) new
+        (record { remaining = left; written = known; events = noted })
+    drove-ended more counts position cuts said keeps says over late =
+        let before = ap shut_of going in
+        let after = ap shut_of ended in
+        drove-took reported link new bytes left known events noted more said
+        (drives-ended link new held idle counts position window items ended written reported more bytes known going keeps says over late)
+        (record { found = omega (arith, position); cuts = cuts; written = omega (arith, written); ended = omega (arith, before, after) })
+        (omega (arith, counts))
+        (omega (arith, position, cuts, written, before, after))
 
-  pub drove-shut : new.core ≡ link.core → new.source ≡ link.source → noted ≡ events
-      → Drove 1 reported link (record { remaining = prepend_known bytes left; written = known; events = events }) new
-      (record { remaining = left; written = known; events = noted })
-  drove-shut core source said =
-      let none : read_end_of new.source ≡ None = ap read_end_of source ∙ held.unheard going in
-      drove-ended [] (ap (λ (core : CoreView). core.bytes) core) (ap core_position core)
-      (let cuts = ap (λ (core : CoreView). core.runner.cuts) core in omega (arith, cuts)) (said ∙ events-none events)
-      (keeps-same reported link.core new.core core) (sym (ap is_some none))
-      (λ unknown came long. subst (λ source. IfSome source (λ end. IsUnsent end came bytes)) (sym none) tt) (λ known. none)
+    pub drove-shut : new.core ≡ link.core → new.source ≡ link.source → noted ≡ events
+        → Drove 1 reported link (record { remaining = prepend_known bytes left; written = known; events = events }) new
+        (record { remaining = left; written = known; events = noted })
+    drove-shut core source said =
+        let none : read_end_of new.source ≡ None = ap read_end_of source ∙ held.unheard going in
+        drove-ended [] (ap (λ (core : CoreView). core.bytes) core) (ap core_position core)
+        (let cuts = ap (λ (core : CoreView). core.runner.cuts) core in omega (arith, cuts)) (said ∙ events-none events)
+        (keeps-same reported link.core new.core core) (sym (ap is_some none))
+        (λ unknown came long. subst (λ source. IfSome source (λ end. IsUnsent end came bytes)) (sym none) tt) (λ known. none)
 
 -- a direction that is new may be driven
 pub ready-new : (reported : ℕ → Type 0) (link : PolledLink) (left : Option (List ℕ)) (failed : Bool) → IsNew link → IsHeld link → failed ≡ false
@@ -480,7 +448,7 @@ pub follows-new : (means : List Item → List Item) (reported : ℕ → Type 0) 
 follows-new means reported link known new output =
     let carried : Carried means reported link.core [] = start-carried means reported link.core new.bytes new.latest new.position new.none_kept output in
     record {
-      carried = clad means reported link.core link.unwritten [] new.unwritten carried;
+      carried = clad means reported link.core link.unwritten.items [] new.unwritten carried;
       faithful = carried.faithful;
       closed = sym (ap (λ source. is_some (read_end_of source)) new.source);
       parts = subst (AreOf []) (sym new.held) tt;
@@ -489,3 +457,18 @@ follows-new means reported link known new output =
       unsent = unsent-none link [] (ap read_end_of new.source);
       wrote = append-nothing known ∙ ap (append_known known) (sym (take-nil link.written));
     }
+
+-- What was read is kept piece by piece
+
+-- the first bytes, and then the others
+pub split-read : (count : ℕ) (bytes : List ℕ) (left : Option (List ℕ))
+    → prepend_known bytes left ≡ prepend_known (take count bytes) (prepend_known (drop count bytes) left)
+split-read count bytes None = refl
+split-read count bytes (Some left) = ap Some (ap (λ bytes. bytes ++ left) (sym (take-append-drop count bytes))
+    ∙ append_assoc (take count bytes) (drop count bytes) left)
+
+pub more-read : (done count : ℕ) (bytes : List ℕ) (left : Option (List ℕ))
+    → prepend_known (take (done + count) bytes) left ≡ prepend_known (take done bytes) (prepend_known (take count (drop done bytes)) left)
+more-read done count bytes None = refl
+more-read done count bytes (Some left) = ap Some (ap (λ bytes. bytes ++ left) (take-add done count bytes)
+    ∙ append_assoc (take done bytes) (take count (drop done bytes)) left)

@@ -1,5 +1,6 @@
 -- Bytes that are written from the pieces of a window, one part after the other.
-use Rattle.std.proofs.Common.{◌≡◌, ℕ, ◌+◌, ◌-◌, ◌<◌, ◌≤◌, cond, inl, inr, List, [], ◌∷◌, ◌++◌, length, length-drop, length-take-le, take, drop, Option, Some}
+use Rattle.std.proofs.Common.{◌≡◌, ℕ, ◌+◌, ◌-◌, ◌<◌, ◌≤◌, cond, inl, inr, Bool, true, false, List, [], ◌∷◌, ◌++◌, length, length-append, length-drop}
+use Rattle.std.proofs.Common.{length-take-le, take, drop, Option, Some}
 use Rattle.std.proofs.Common.{None, refl, ap, ◌∙◌, sym, subst, append_assoc, arith}
 use Rattle.std.specs.Prelude.{find, nat_lt, ◌&&◌}
 use Rattle.std.specs.Io.KnownBytes.{append_known}
@@ -10,7 +11,7 @@ use Rattle.std.proofs.lemmas.Option.{same_Some}
 use Rattle.tox_time.specs.declared.streams.span.Span.{Span}
 use Rattle.tox_lend.specs.Run.{Run, stop_of, bytes_at}
 use Rattle.tox_lend.specs.Window.{Pieces, JoinUpTo, start_of, has_position}
-use Rattle.tox_link.specs.steps.Held.{AreOf, HoldsSpan}
+use Rattle.tox_link.specs.steps.Held.{AreFrom, AreOf, HoldsSpan}
 
 append-append : (known : Option (List ℕ)) (xs ys : List ℕ) → append_known (append_known known xs) ys ≡ append_known known (xs ++ ys)
 append-append None xs ys = refl
@@ -108,5 +109,38 @@ front-part piece pieces start stop count bytes holds some few within is =
       some = omega (arith, long, some);
       few = omega (arith, long, few);
       part = λ heard parts. exact ∙ part-of heard piece.bytes piece.start start count (holds.part heard parts) holds.from_start (omega (arith, within))
+          ∙ ap (λ n. take n (drop start heard)) (sym long);
+    }
+
+-- a piece that a window finds has its bytes
+pub find-part : (position : ℕ) (pieces : List Run) (piece : Run) → find (has_position position) pieces ≡ Some piece → (heard : List ℕ) → AreOf heard pieces
+    → piece.bytes ≡ take (length piece.bytes) (drop piece.start heard)
+find-part position [] piece found heard parts = absurd (cc)
+find-part position (first ∷ pieces) piece found heard parts = by (has_position position first) refl
+    (λ later. find-part position pieces piece later heard parts.1)
+  where
+    by : (test : Bool) → has_position position first ≡ test
+        → (find (has_position position) pieces ≡ Some piece → piece.bytes ≡ take (length piece.bytes) (drop piece.start heard))
+        → piece.bytes ≡ take (length piece.bytes) (drop piece.start heard)
+    by true is later = subst (λ run. run.bytes ≡ take (length run.bytes) (drop run.start heard))
+        (same_Some first piece (sym (ap (λ test. cond test (Some first) (find (has_position position) pieces)) is) ∙ found)) parts.0
+    by false is later = later (sym (ap (λ test. cond test (Some first) (find (has_position position) pieces)) is) ∙ found)
+
+-- no bytes
+pub from-none : (pieces : List Run) (start stop : ℕ) → start ≤ stop → AreFrom pieces start stop []
+from-none pieces start stop few = record { few = omega (arith, few); part = λ heard parts. refl }
+
+-- bytes behind others
+pub from-append : (pieces : List Run) (start stop : ℕ) (bytes more : List ℕ) → AreFrom pieces start stop bytes
+    → AreFrom pieces (start + length bytes) stop more → AreFrom pieces start stop (bytes ++ more)
+from-append pieces start stop bytes more front back =
+    let long : length (bytes ++ more) ≡ length bytes + length more = length-append bytes more in
+    record {
+      few = omega (arith, long, back.few);
+      part = λ heard parts.
+          ap (λ bytes. bytes ++ more) (front.part heard parts)
+          ∙ ap (λ more. take (length bytes) (drop start heard) ++ more)
+          (back.part heard parts ∙ ap (take (length more)) (sym (drop-drop (length bytes) start heard)))
+          ∙ sym (take-add (length bytes) (length more) (drop start heard))
           ∙ ap (λ n. take n (drop start heard)) (sym long);
     }

@@ -11,6 +11,7 @@ pub mod HeldLemmas
 pub mod SideLemmas
 pub mod LoggedLemmas
 pub mod CarryLemmas
+pub mod UnwrittenLemmas
 pub mod FollowLemmas
 pub mod DriveLemmas
 pub mod PlainLemmas

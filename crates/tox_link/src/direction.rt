@@ -1,6 +1,7 @@
 //! One direction of a live link as a step machine. It owns no clock, socket or thread.
 mod asking;
 mod drive_start;
+mod parts;
 mod poll_ends;
 mod polled_link;
 mod progress;

@@ -26,4 +26,4 @@ pub use link_report::{LinkReport, TimedReport};
 pub use notes::{LinkEvent, NoNotes, Notes};
 pub use ring::message::ReadEnd;
 pub use source_ending::SourceEnding;
-pub use steps::read_size::READ_SIZE;
+pub use steps::read_size::{READ_SIZE, SCRATCH_SIZE};

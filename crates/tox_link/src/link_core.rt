@@ -104,6 +104,13 @@ impl<'w> LinkCore<'w> {
         self.waiting.len() + usize::from(!self.runner.is_idle()) < MAX_PIECES
     }
 
+    /// How many pieces it has room for beside those that it keeps.
+    pub(crate) fn room_left(&self) -> usize
+        ensures { result + kept_count self.now ≡ 1024 }
+    {
+        MAX_PIECES - self.waiting.len() - usize::from(!self.runner.is_idle())
+    }
+
     /// The last instant handed in, 0 at first.
     pub fn latest(&self) -> Micros
         ensures { result ≡ self.now.latest }

@@ -3,15 +3,17 @@ ghost use Rattle.std.specs.Prelude.{◌≡◌, ℕ, Ok, false, true, not, None, 
 ghost use Rattle.tox_time.specs.Ends.{takes_nothing};
 ghost use Rattle.tox_sockets.specs.Bound.{is_reached};
 ghost use Rattle.std.specs.Arc.{arc_value};
+ghost use Rattle.std.specs.Io.Slices.{io_slices_bytes};
 ghost use Rattle.tox_sockets.specs.ResetDue.{after_op};
 ghost use Rattle.tox_sockets.specs.Streams.{target_of};
 
 use crate::bound::is_reached;
 use crate::clock::{LinkStart, SinceStart};
 use crate::link_sockets::LinkSockets;
-use crate::readiness::{would_wait, write_on};
+use crate::readiness::{is_all, would_wait, write_on};
 use crate::reset_due::reset_due;
 use std::alloc::Global;
+use std::io::IoSlice;
 use std::net::TcpStream;
 use std::sync::Arc;
 use std::time::Clock;
@@ -115,15 +117,15 @@ impl<'r, R: Clock> ReadySink<'r, R> {
     }
 
     /// A write took so many of these bytes. If it took fewer than all, the next one waits until the system reports room.
-    fn took(&mut self, count: usize, bytes: &[u8])
-        ensures room { self.new.full ≡ nat_lt count (length bytes.now) }
+    fn took(&mut self, count: usize, buffers: &[IoSlice<'_>])
+        ensures room { self.new.full ≡ nat_lt count (length (io_slices_bytes buffers.now)) }
         ensures news { self.new.writable ≡ not self.new.full }
-        ensures failed { self.new.failed ≡ takes_nothing count bytes.now }
+        ensures failed { self.new.failed ≡ takes_nothing count (io_slices_bytes buffers.now) }
         ensures kept { (self.new.waits ≡ self.old.waits) × (self.new.due ≡ self.old.due) }
     {
-        self.full = count < bytes.len();
+        self.full = !is_all(count, buffers);
         self.writable = !self.full;
-        self.failed = count == 0 && !bytes.is_empty();
+        self.failed = count == 0 && self.full;
     }
 
     /// There was too little room. It waits for more, unless the reset is due.
@@ -153,16 +155,16 @@ impl<'r, R: Clock> PollSink for ReadySink<'r, R> {
 
     ghost due = { λ sink. sink.due };
 
-    fn poll_write(&mut self, bytes: &[u8]) -> Result<Option<usize>, EndFault> {
+    fn poll_write(&mut self, buffers: &[IoSlice<'_>]) -> Result<Option<usize>, EndFault> {
         if self.link.is_stopped() || (self.full && self.is_due()) {
             return Err(self.fail());
         }
         if !self.writable {
             return self.wait();
         }
-        match write_on(self.target(), bytes) {
+        match write_on(self.target(), buffers) {
             Ok(count) => {
-                self.took(count, bytes);
+                self.took(count, buffers);
                 Ok(Some(count))
             }
             Err(error) if would_wait(&error) => self.wait(),

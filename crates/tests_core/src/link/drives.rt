@@ -40,7 +40,7 @@ fn drive_on(
     ensures driven { MatchResult result (IsAtEnd IsInstant link.new)
         (λ fault. written_before fault ≡ link.new.written) }
 {
-    let mut scratch = [0; 16_384];
+    let mut scratch = [0; 65_536];
     for _ in 0..MAX_DRIVES {
         match drive(link, rt.alloc(), clock, notes, source, sink, &mut scratch) {
             Ok(Progress::Again) => {}

@@ -93,11 +93,35 @@ const MANY_BYTES: &DriveCase = &DriveCase {
     most_read: 16_384,
     due: None,
     kept: Kept::Nothing,
-    steps: &[Step::DriveOn, Step::Left(868_928)],
+    steps: &[Step::DriveOn, Step::Left(918_080)],
 };
 
-/// A drive that reads 131,072 bytes reads no more.
+/// A drive that reads 81,920 bytes reads no more.
 #[test]
 fn a_drive_ends_behind_many_bytes(rt: HostRuntime) {
     follow(&rt, MANY_BYTES);
+}
+
+const LARGE_READ: &DriveCase = &DriveCase {
+    toxics: "latency:latency=1",
+    gives: 65_536,
+    most_read: 65_536,
+    due: None,
+    kept: Kept::All,
+    steps: &[
+        Step::Drive(Ok(Some(1_010))),
+        Step::Left(0),
+        Step::Events(&[
+            Event::Piece(16_384, 10),
+            Event::Piece(16_384, 10),
+            Event::Piece(16_384, 10),
+            Event::Piece(16_384, 10),
+        ]),
+    ],
+};
+
+/// One read of 65,536 bytes is four pieces.
+#[test]
+fn a_large_read_is_kept_in_pieces(rt: HostRuntime) {
+    follow(&rt, LARGE_READ);
 }

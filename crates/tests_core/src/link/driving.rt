@@ -6,8 +6,10 @@ ghost use Rattle.tox_link.specs.direction.Driven.{IsReady};
 use crate::comparing::assert_equal_at;
 use crate::link::case_notes::{CaseNotes, Kept};
 use crate::link::link_ends::RestingClock;
+use crate::link::polled_ends::front_of;
 use crate::link::table_values::{Event, events_of};
 use crate::planning::{one_word, plan_of};
+use std::io::IoSlice;
 use std::process::Abort;
 use std::sync::Arc;
 use std::sync::atomic::{AtomicU64, Ordering};
@@ -60,9 +62,9 @@ impl PollSink for DueSink {
 
     ghost due = { λ s. s.due };
 
-    fn poll_write(&mut self, bytes: &[u8]) -> Result<Option<usize>, EndFault> {
+    fn poll_write(&mut self, buffers: &[IoSlice<'_>]) -> Result<Option<usize>, EndFault> {
         let Some(due) = self.due else {
-            return Ok(Some(bytes.len()));
+            return Ok(Some(front_of(buffers).len()));
         };
         self.failed = due.get() <= self.micros.load(Ordering::SeqCst);
         if self.failed {
@@ -200,7 +202,7 @@ impl DrivenLink {
         ensures { IsReady IsInstant self.new.link None false }
     {
         assert!(rt; !self.sink.failed);
-        let mut scratch = [0; 16_384];
+        let mut scratch = [0; 65_536];
         drive(
             &mut self.link,
             rt.alloc(),

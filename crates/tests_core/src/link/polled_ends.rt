@@ -1,7 +1,9 @@
 //! Ends of a driven direction in tests: they often answer that they would wait.
-ghost use Rattle.std.specs.Prelude.{◌≡◌, Some, None};
+ghost use Rattle.std.specs.Prelude.{◌≡◌, Some, None, [], length, take};
+ghost use Rattle.std.specs.Io.Slices.{io_slices_bytes};
 
 use rand_pcg::Lcg64Xsh32;
+use std::io::IoSlice;
 use tests_support::below;
 use tox_link::{PollSink, PollSource};
 use tox_time::{EndFault, Micros, Sink, Source};
@@ -54,12 +56,12 @@ impl<W: Sink> PollSink for BusyEnd<W> {
 
     ghost due = { λ _. None };
 
-    fn poll_write(&mut self, bytes: &[u8]) -> Result<Option<usize>, EndFault> {
+    fn poll_write(&mut self, buffers: &[IoSlice<'_>]) -> Result<Option<usize>, EndFault> {
         self.waits = below(&mut self.generator, 3) == 0;
         if self.waits {
             return Ok(None);
         }
-        match self.end.write(bytes) {
+        match self.end.write(front_of(buffers)) {
             Ok(count) => Ok(Some(count)),
             Err(fault) => Err(fault),
         }
@@ -68,4 +70,18 @@ impl<W: Sink> PollSink for BusyEnd<W> {
     fn due(&self) -> Option<Micros> {
         None
     }
+}
+
+/// The first buffer that has bytes.
+pub fn front_of<'a>(buffers: &[IoSlice<'a>]) -> &'a [u8]
+    ensures front { result.now ≡ take (length result.now) (io_slices_bytes buffers.now) }
+    ensures none { result.now ≡ [] → io_slices_bytes buffers.now ≡ [] }
+{
+    for buffer in buffers {
+        let bytes = buffer.as_slice();
+        if !bytes.is_empty() {
+            return bytes;
+        }
+    }
+    &[]
 }

@@ -1,5 +1,5 @@
 -- A direction that is driven: what a step starts from, what it did, and what it answers.
-use Rattle.std.specs.Prelude.{◌≡◌, ℕ, ◌+◌, ◌≤◌, ◌⊎◌, Bool, true, false, if◌then◌else◌, List, length, Option, Some, None, IfSome, Result, Ok, Err}
+use Rattle.std.specs.Prelude.{◌≡◌, ◌≢◌, ℕ, ◌+◌, ◌≤◌, ◌⊎◌, Bool, true, false, if◌then◌else◌, List, [], ◌∷◌, length, Option, IfSome, Result, Ok, Err}
 use Rattle.std.specs.Io.KnownBytes.{prepend_known}
 use Rattle.tox_time.specs.declared.streams.ending.Ending.{Ending}
 use Rattle.tox_time.specs.declared.streams.item.Item.{Item}
@@ -69,11 +69,11 @@ pub record Drove (least : ℕ) (reported : ℕ → Type 0) (old : PolledLink) (b
   pub work : done_of old + least ≤ done_of new + length bytes + length more
 
 -- the slice that an answer gives to be written, with the reading at which it was given
-abbrev pub begun_by : Act → ℕ → Option Unwritten
-begun_by (Write slice) now = Some (record { slice = slice; reading = now })
-begun_by (WaitUntil instant) now = None
-begun_by WaitForInput now = None
-begun_by (End last) now = None
+abbrev pub begun_by : Act → ℕ → List Unwritten
+begun_by (Write slice) now = record { slice = slice; reading = now } ∷ []
+begun_by (WaitUntil instant) now = []
+begun_by WaitForInput now = []
+begun_by (End last) now = []
 
 -- how many steps an answer counts for
 abbrev pub steps_of_act : Act → ℕ
@@ -91,13 +91,13 @@ steps_of_move (Err fault) = 0
 -- a direction waits, at most until an instant: where a slice is being written its sink waits, and the instant is when the
 -- sink gives up; else the core says that it waits at a reading that the clock reported, and input may not be taken or isn't there
 pub record WaitsFor (reported : ℕ → Type 0) (link : PolledLink) (source_waits sink_waits : Bool) (due until : Option ℕ) : Type 0 where
-  pub slice : (unwritten : Unwritten) → link.unwritten ≡ Some unwritten → (sink_waits ≡ true) × (until ≡ due)
-  pub idle : link.unwritten ≡ None → reported link.core.latest × Says link.core link.core.latest (wait_act until)
+  pub slice : link.unwritten.items ≢ [] → (sink_waits ≡ true) × (until ≡ due)
+  pub idle : link.unwritten.items ≡ [] → reported link.core.latest × Says link.core link.core.latest (wait_act until)
       × ((¬ MayTake link.core link.window link.ended) ⊎ (source_waits ≡ true))
 
 -- a direction has ended so, and no slice is being written
 pub record IsAtEnd (reported : ℕ → Type 0) (link : PolledLink) (ending : Ending) : Type 0 where
-  pub idle : link.unwritten ≡ None
+  pub idle : link.unwritten.items ≡ []
   pub ended : HasEnded reported link.core link.ended ending
 
 -- what an answer says of the direction

@@ -36,5 +36,5 @@ pub record IsNewCore (plan : Ops) (words : List ℕ) (core : CoreView) : Type 0 
 
 -- how many pieces a core has room for whose plan has these operations
 abbrev pub room_of : List Op → ℕ
-room_of [] = 1
+room_of [] = 4
 room_of (op ∷ ops) = 1024

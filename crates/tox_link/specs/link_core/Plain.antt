@@ -1,5 +1,5 @@
 -- The core of a plan without operations: a piece is to be written as it came.
-use Rattle.std.specs.Prelude.{ℕ, true, [], option_to_list, Option, Some, None, is_some}
+use Rattle.std.specs.Prelude.{ℕ, true, List, [], ◌∷◌, Option, Some, None, is_some}
 use Rattle.tox_time.specs.declared.streams.ending.Ending.{Ending}
 use Rattle.tox_time.specs.declared.streams.ending.Ending.TheVariants.{Closed as ClosedAt}
 use Rattle.tox_time.specs.declared.streams.position.StreamPosition.{StreamPosition}
@@ -8,16 +8,16 @@ use Rattle.tox_plan.specs.RunnerView.{RunnerView}
 use Rattle.tox_link.specs.declared.link_core.waiting.WaitingPiece.{WaitingPiece}
 use Rattle.tox_link.specs.link_core.Core.{CoreView}
 
--- the source's end, while a piece waits before it
-abbrev pub end_behind : Option WaitingPiece → Option ℕ → Option ℕ
-end_behind None end = None
-end_behind (Some piece) end = end
+-- the source's end, while pieces wait before it
+abbrev pub end_behind : List WaitingPiece → Option ℕ → Option ℕ
+end_behind [] end = None
+end_behind (piece ∷ pieces) end = end
 
 -- the ending, once none does
-abbrev pub end_reached : Option WaitingPiece → Option ℕ → Option Ending
-end_reached None None = None
-end_reached None (Some t) = Some (ClosedAt t)
-end_reached (Some piece) end = None
+abbrev pub end_reached : List WaitingPiece → Option ℕ → Option Ending
+end_reached [] None = None
+end_reached [] (Some t) = Some (ClosedAt t)
+end_reached (piece ∷ pieces) end = None
 
 -- a runner without operations that gave all up to a position
 abbrev pub plain_runner : ℕ → Option Ending → RunnerView
@@ -38,15 +38,15 @@ plain_runner given ending = record {
   pieces = 0;
 }
 
--- the core that gave all up to a position, at which this piece waits, if one does
-abbrev pub plain_core : ℕ → Option WaitingPiece → Option ℕ → StreamPosition → CoreView
+-- the core that gave all up to a position, from which on these pieces wait
+abbrev pub plain_core : ℕ → List WaitingPiece → Option ℕ → StreamPosition → CoreView
 plain_core given waiting end so_far = record {
   runner = plain_runner given (end_reached waiting end);
-  waiting = option_to_list waiting;
+  waiting = waiting;
   found = None;
   end = end_behind waiting end;
   ended = so_far.ended;
   bytes = so_far.position;
   latest = so_far.latest;
-  room = 1;
+  room = 4;
 }

@@ -1,5 +1,5 @@
 -- A window that holds pieces of the heard bytes.
-use Rattle.std.specs.Prelude.{◌≡◌, ℕ, ◌<◌, ◌≤◌, Bool, false, Option, None, List, [], ◌∷◌, ◌++◌, length, take, drop}
+use Rattle.std.specs.Prelude.{◌≡◌, ℕ, ◌+◌, ◌<◌, ◌≤◌, Bool, false, Option, None, List, [], ◌∷◌, ◌++◌, length, take, drop}
 use Rattle.std.specs.Io.KnownBytes.{append_known}
 use Rattle.tox_time.specs.declared.streams.span.Span.{Span}
 use Rattle.tox_lend.specs.Run.{Run, stop_of}
@@ -10,6 +10,11 @@ use Rattle.tox_link.specs.link_core.Core.{CoreView, core_ending, kept_count}
 abbrev pub AreOf : List ℕ → List Run → Type 0
 AreOf heard [] = Unit {0}
 AreOf heard (piece ∷ pieces) = (piece.bytes ≡ take (length piece.bytes) (drop piece.start heard)) × AreOf heard pieces
+
+-- bytes of the heard ones from a position on, and up to another at most, where the pieces of them are these
+pub record AreFrom (pieces : List Run) (start stop : ℕ) (bytes : List ℕ) : Type 0 where
+  pub few : start + length bytes ≤ stop
+  pub part : (heard : List ℕ) → AreOf heard pieces → bytes ≡ take (length bytes) (drop start heard)
 
 -- the window with one more piece
 abbrev pub with_held_piece : Pieces → Run → Pieces

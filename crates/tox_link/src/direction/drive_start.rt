@@ -6,7 +6,7 @@ ghost use Rattle.tox_link.specs.direction.Follows.{IsHeld};
 use crate::direction::polled_link::PolledLink;
 
 /// After how many bytes, taken and written, a drive goes on no further.
-const BYTES: u64 = 131_072;
+const BYTES: u64 = 81_920;
 
 /// After how many cuts of its core a drive goes on no further.
 const CUTS: u64 = 4_096;
@@ -35,9 +35,9 @@ impl DriveStart {
     /// Whether the drive goes on no further.
     pub fn has_done_enough(&self, link: &PolledLink) -> bool
         requires { IsHeld link.now }
-        ensures enough { IsTrue result → (self.now.moved + 131_072 ≤ moved_of link.now)
+        ensures enough { IsTrue result → (self.now.moved + 81_920 ≤ moved_of link.now)
             ⊎ (self.now.cuts + 4_096 ≤ link.now.core.runner.cuts) }
-        ensures few { result ≡ false → moved_of link.now < self.now.moved + 131_072 }
+        ensures few { result ≡ false → moved_of link.now < self.now.moved + 81_920 }
     {
         let moved = link.moved().saturating_sub(self.moved);
         let cuts = link.core.cuts().saturating_sub(self.cuts);

@@ -1,8 +1,10 @@
 //! Readers and writers that don't wait.
 ghost use Rattle.std.specs.Prelude.{◌≡◌, ℕ, ◌<◌, ◌≤◌, Bool, false, true, List, Option, length, take, IfOk, OnOk, OnErr, IfSome, IfNone, MatchOption};
 ghost use Rattle.std.specs.Io.KnownBytes.{prepend_known, append_known, IsAtEnd};
+ghost use Rattle.std.specs.Io.Slices.{io_slices_bytes};
 ghost use Rattle.tox_time.specs.Ends.{takes_nothing};
 
+use std::io::IoSlice;
 use tox_time::{EndFault, Micros};
 
 /// A reader that answers None where it would wait. It may be called only while it has not failed.
@@ -46,17 +48,19 @@ pub trait PollSink {
     /// The instant from which on it fails rather than wait, if there is one.
     ghost due: { Self → Option ℕ };
 
-    /// Appends the first of these bytes and returns how many. None appends nothing. A zero-byte write of a nonempty buffer
+    /// Appends the first bytes of these buffers and returns how many. None appends nothing. A zero-byte write of a nonempty buffer
     /// fails the sink. An `Err` appends nothing, and the sink has failed for good.
-    fn poll_write(&mut self, bytes: &[u8]) -> Result<Option<usize>, EndFault>
+    fn poll_write(&mut self, buffers: &[IoSlice<'_>]) -> Result<Option<usize>, EndFault>
         requires { failed self.old ≡ false }
-        ensures count { IfOk result (λ took. IfSome took (λ n. n ≤ length bytes.now)) }
+        ensures count { IfOk result (λ took. IfSome took
+            (λ n. n ≤ length (io_slices_bytes buffers.now))) }
         ensures bytes { IfOk result (λ took. MatchOption took
             (written self.new ≡ written self.old)
-            (λ n. written self.new ≡ append_known (written self.old) (take n bytes.now))) }
+            (λ n. written self.new
+            ≡ append_known (written self.old) (take n (io_slices_bytes buffers.now)))) }
         ensures working { IfOk result (λ took. MatchOption took
             (failed self.new ≡ false)
-            (λ n. failed self.new ≡ takes_nothing n bytes.now)) }
+            (λ n. failed self.new ≡ takes_nothing n (io_slices_bytes buffers.now))) }
         ensures waits { IfOk result (λ took. IfNone took (waits self.new ≡ true)) }
         ensures fault { OnErr result (failed self.new ≡ true) }
         ensures kept { OnErr result (written self.new ≡ written self.old) };

@@ -5,24 +5,25 @@ ghost use Rattle.tox_link.specs.Meaning.{MeansPlan};
 ghost use Rattle.tox_link.specs.direction.Driven.{moved_of};
 ghost use Rattle.tox_link.specs.direction.Follows.{HasRoomOf, IsHeld, IsNew};
 
-use crate::direction::unwritten::Unwritten;
+use crate::direction::unwritten::{MAX_TOGETHER, Unwritten};
 use crate::link_core::direction_core::{DirectionCore, room_of};
 use crate::source_ending::SourceEnding;
+use arrayvec::ArrayVec;
 use std::alloc::{AllocError, Global};
 use tox_compile::Plan;
 use tox_lend::Window;
 use tox_time::Micros;
 use tox_words::Words;
 
-/// One direction of a live link between two events: its core, the pieces that are still needed, and the slice that is being
+/// One direction of a live link between two events: its core, the pieces that are still needed, and the slices that are being
 /// written. It owns all that it needs, so it can be kept anywhere. Where its plan has no operation it stands under 512 bytes, and
 /// holds at most one read.
 #[derive(Drop)]
 pub struct PolledLink {
     pub(crate) core: DirectionCore<'static>,
     pub(crate) window: Window,
-    /// The slice that is being written. It is written up to `written`.
-    pub(crate) unwritten: Option<Unwritten>,
+    /// The slices that are being written, up to `written`.
+    pub(crate) unwritten: ArrayVec<Unwritten, MAX_TOGETHER>,
     /// How the source ended, if its end came before the ending was known.
     pub(crate) source: SourceEnding,
     /// Whether nothing more is read.
@@ -42,7 +43,7 @@ impl PolledLink {
         Ok(PolledLink {
             window: Window::new(alloc, room_of(&plan))?,
             core: DirectionCore::owning(alloc, plan, words)?,
-            unwritten: None,
+            unwritten: ArrayVec::new(),
             source: SourceEnding::NotReached,
             ended: false,
             written: 0,

@@ -1,11 +1,11 @@
 //! What a read gave reaches the core.
-ghost use Rattle.std.specs.Prelude.{◌≡◌, ℕ, ◌+◌, ◌<◌, ◌≤◌, ◌^◌, ◌⊎◌, List, length, false, true, None, Option, OnOk, is_some};
+ghost use Rattle.std.specs.Prelude.{◌≡◌, ℕ, ◌+◌, ◌-◌, ◌<◌, ◌≤◌, ◌^◌, ◌⊎◌, List, [], length, take, false, true, None, Option, IfOk, OnErr, OnOk, is_some};
 ghost use Rattle.std.specs.Io.KnownBytes.{prepend_known};
 ghost use Rattle.tox_link.specs.declared.source_ending.SourceEnding.TheVariants.{TooManyBytes as AtLimit};
 ghost use Rattle.tox_link.specs.steps.Held.{MayTake};
 ghost use Rattle.tox_link.specs.direction.Driven.{Drove, EndsWithCore, ends_view};
-ghost use Rattle.tox_link.specs.direction.Follows.{IsHeld, AreLeftOver};
-ghost use Rattle.tox_link.specs.link_core.Core.{core_ending};
+ghost use Rattle.tox_link.specs.direction.Follows.{AreLeftOver, HasRoomFor, IsHeld};
+ghost use Rattle.tox_link.specs.link_core.Core.{core_ending, kept_count};
 ghost use Rattle.tox_link.specs.log.Carried.{ReadsOn};
 ghost use Rattle.tox_link.specs.Sources.{read_end_of};
 
@@ -14,6 +14,7 @@ use crate::direction::polled_link::PolledLink;
 use crate::notes::Notes;
 use crate::source_ending::SourceEnding;
 use crate::steps::arriving::{take_end, take_piece};
+use crate::steps::read_size::READ_SIZE;
 use std::alloc::{AllocError, Global};
 use tox_time::MAX_BYTES;
 
@@ -27,7 +28,7 @@ fn keep_bytes<C: Clock, N: Notes>(
 ) -> Result<(), AllocError>
     requires held { IsHeld link.old }
     requires read { (link.old.core.latest ≡ 0) ⊎ C.reported clock.now link.old.core.latest }
-    requires idle { link.old.unwritten ≡ None }
+    requires idle { link.old.unwritten.items ≡ [] }
     requires room { MayTake link.old.core link.old.window link.old.ended }
     requires unknown { core_ending link.old.core ≡ None }
     requires fits { (0 < length bytes.items)
@@ -35,13 +36,21 @@ fn keep_bytes<C: Clock, N: Notes>(
     requires small { length bytes.items ≤ 16_384 }
     ensures held { IsHeld link.new }
     ensures reads { ReadsOn (C.reported clock.now) link.old.core.latest link.new.core.latest }
-    ensures same { (link.new.source ≡ link.old.source) × (link.new.unwritten ≡ None)
+    ensures same { (link.new.source ≡ link.old.source) × (link.new.unwritten.items ≡ [])
         × (link.new.written ≡ link.old.written) }
     ensures taken { link.new.core.bytes ≤ link.old.core.bytes + length bytes.items }
     ensures ok { OnOk result ((link.new.ended ≡ false) × (link.new.core.ended ≡ false)) }
-    ensures drove { (left written : Option (List ℕ)) → Drove 1 (C.reported clock.now)
+    ensures room { OnOk result ((kept_count link.new.core ≡ kept_count link.old.core + 1)
+        × (link.new.core.room ≡ link.old.core.room) × (core_ending link.new.core ≡ None)
+        × (length link.new.window.held ≡ length link.old.window.held + 1)
+        × (link.new.window.room ≡ link.old.window.room)) }
+    ensures drove { OnOk result ((left written : Option (List ℕ)) → Drove 1 (C.reported clock.now)
         link.old (ends_view (prepend_known bytes.items left) written (N.events notes.old))
-        link.new (ends_view left written (N.events notes.new)) }
+        link.new (ends_view left written (N.events notes.new))) }
+    ensures stopped { OnErr result ((link.new.core.bytes ≡ link.old.core.bytes)
+        × ((lost : List ℕ) (left written : Option (List ℕ)) → Drove 1 (C.reported clock.now)
+        link.old (ends_view (prepend_known lost left) written (N.events notes.old))
+        link.new (ends_view left written (N.events notes.new)))) }
 {
     let Ok(()) = take_piece(&mut link.core, &mut link.window, clock, notes, bytes) else {
         link.ended = true;
@@ -60,12 +69,12 @@ pub(crate) fn end_source<C: Clock, N: Notes>(
 ) -> Result<(), AllocError>
     requires held { IsHeld link.old }
     requires read { (link.old.core.latest ≡ 0) ⊎ C.reported clock.now link.old.core.latest }
-    requires idle { link.old.unwritten ≡ None }
+    requires idle { link.old.unwritten.items ≡ [] }
     requires going { link.old.ended ≡ false }
     requires why { is_some (read_end_of source) ≡ true }
     ensures held { IsHeld link.new }
     ensures reads { ReadsOn (C.reported clock.now) link.old.core.latest link.new.core.latest }
-    ensures same { (link.new.ended ≡ true) × (link.new.unwritten ≡ None)
+    ensures same { (link.new.ended ≡ true) × (link.new.unwritten.items ≡ [])
         × (link.new.written ≡ link.old.written) }
     ensures taken { link.new.core.bytes ≡ link.old.core.bytes }
     ensures source { (link.new.source ≡ source) ⊎ (link.new.source ≡ link.old.source) }
@@ -85,8 +94,58 @@ pub(crate) fn end_source<C: Clock, N: Notes>(
     Ok(())
 }
 
-/// Some bytes were read. They are kept, dropped where the ending is known, or end the source where they are too many.
-/// Without memory for them, or for a note, nothing more is read.
+/// Keeps the first piece of bytes that were read, and returns how many bytes are done with then: at most 16,384. All of them are
+/// where the ending is known, since they are dropped, and where they are too many, since they end the source. Without memory for the
+/// piece, or for a note, nothing more is read.
+fn keep_next<C: Clock, N: Notes>(
+    link: &mut PolledLink,
+    alloc: Global,
+    clock: &C,
+    notes: &mut N,
+    bytes: &[u8],
+) -> Result<usize, AllocError>
+    requires held { IsHeld link.old }
+    requires read { (link.old.core.latest ≡ 0) ⊎ C.reported clock.now link.old.core.latest }
+    requires idle { link.old.unwritten.items ≡ [] }
+    requires room { HasRoomFor (length bytes.now) link.old }
+    requires some { 0 < length bytes.now }
+    ensures held { IsHeld link.new }
+    ensures reads { ReadsOn (C.reported clock.now) link.old.core.latest link.new.core.latest }
+    ensures same { (link.new.unwritten.items ≡ []) × (link.new.written ≡ link.old.written) }
+    ensures count { IfOk result (λ count. (0 < count) × (count ≤ length bytes.now)) }
+    ensures room { IfOk result (λ count. count < length bytes.now
+        → HasRoomFor (length bytes.now - count) link.new) }
+    ensures taken { IfOk result (λ count. link.new.core.bytes ≤ link.old.core.bytes + count) }
+    ensures source { (link.new.source ≡ link.old.source)
+        ⊎ ((link.new.source ≡ AtLimit) × (link.new.ended ≡ true)) }
+    ensures ends { OnOk result (EndsWithCore link.old → EndsWithCore link.new) }
+    ensures drove { IfOk result (λ count. (left written : Option (List ℕ))
+        → Drove 1 (C.reported clock.now) link.old
+        (ends_view (prepend_known (take count bytes.now) left) written (N.events notes.old))
+        link.new (ends_view left written (N.events notes.new))) }
+    ensures stopped { OnErr result ((link.new.core.bytes ≡ link.old.core.bytes)
+        × ((left written : Option (List ℕ)) → Drove 1 (C.reported clock.now)
+        link.old (ends_view (prepend_known bytes.now left) written (N.events notes.old))
+        link.new (ends_view left written (N.events notes.new)))) }
+{
+    if link.core.ending().is_some() {
+        return Ok(bytes.len());
+    }
+    let len = bytes.len().min(READ_SIZE);
+    if len as u64 > MAX_BYTES - link.window.stop() {
+        end_source(link, clock, notes, SourceEnding::TooManyBytes)?;
+        return Ok(bytes.len());
+    }
+    let Ok(kept) = Vec::from_slice(alloc, &bytes[..len]) else {
+        link.ended = true;
+        return Err(AllocError);
+    };
+    keep_bytes(link, clock, notes, kept)?;
+    Ok(len)
+}
+
+/// Some bytes were read. They are kept in pieces of at most 16,384 bytes, dropped where the ending is known, or end the source where
+/// they are too many. Without memory for them, or for a note, nothing more is read.
 pub(crate) fn keep_read<C: Clock, N: Notes>(
     link: &mut PolledLink,
     alloc: Global,
@@ -96,13 +155,12 @@ pub(crate) fn keep_read<C: Clock, N: Notes>(
 ) -> Result<(), AllocError>
     requires held { IsHeld link.old }
     requires read { (link.old.core.latest ≡ 0) ⊎ C.reported clock.now link.old.core.latest }
-    requires idle { link.old.unwritten ≡ None }
-    requires room { MayTake link.old.core link.old.window link.old.ended }
+    requires idle { link.old.unwritten.items ≡ [] }
+    requires room { HasRoomFor (length bytes.now) link.old }
     requires some { 0 < length bytes.now }
-    requires small { length bytes.now ≤ 16_384 }
     ensures held { IsHeld link.new }
     ensures reads { ReadsOn (C.reported clock.now) link.old.core.latest link.new.core.latest }
-    ensures same { (link.new.unwritten ≡ None) × (link.new.written ≡ link.old.written) }
+    ensures same { (link.new.unwritten.items ≡ []) × (link.new.written ≡ link.old.written) }
     ensures taken { link.new.core.bytes ≤ link.old.core.bytes + length bytes.now }
     ensures source { (link.new.source ≡ link.old.source)
         ⊎ ((link.new.source ≡ AtLimit) × (link.new.ended ≡ true)) }
@@ -111,15 +169,9 @@ pub(crate) fn keep_read<C: Clock, N: Notes>(
         link.old (ends_view (prepend_known bytes.now left) written (N.events notes.old))
         link.new (ends_view left written (N.events notes.new)) }
 {
-    if link.core.ending().is_some() {
-        return Ok(());
+    let mut done = keep_next(link, alloc, clock, notes, bytes)?;
+    while done < bytes.len() {
+        done += keep_next(link, alloc, clock, notes, &bytes[done..])?;
     }
-    if bytes.len() as u64 > MAX_BYTES - link.window.stop() {
-        return end_source(link, clock, notes, SourceEnding::TooManyBytes);
-    }
-    let Ok(kept) = Vec::from_slice(alloc, bytes) else {
-        link.ended = true;
-        return Err(AllocError);
-    };
-    keep_bytes(link, clock, notes, kept)
+    Ok(())
 }

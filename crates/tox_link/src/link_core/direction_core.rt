@@ -1,5 +1,5 @@
 //! The core of a direction, by its plan: a `LinkCore`, or a few numbers where the plan has no operation.
-ghost use Rattle.std.specs.Prelude.{◌≡◌, ◌<◌, ◌≤◌, ◌↔◌, List, [], ◌∷◌, false, IsTrue, IfSome, IfOk};
+ghost use Rattle.std.specs.Prelude.{◌≡◌, ◌+◌, ◌<◌, ◌≤◌, List, [], ◌∷◌, false, IfSome, IfOk};
 ghost use Rattle.tox_time.specs.declared.streams.item.Item.{Item as OneItem};
 ghost use Rattle.tox_time.specs.streams.Table.{final_of};
 ghost use Rattle.tox_compile.specs.Meaning.{Ops};
@@ -8,7 +8,7 @@ ghost use Rattle.tox_link.specs.link_core.NewCore.{Begins, IsNewCore, room_of};
 ghost use Rattle.tox_link.specs.link_core.Acts.{Answered, HearsPiece, HearsEnd};
 
 use crate::link_core::act::Act;
-use crate::link_core::plain_core::PlainCore;
+use crate::link_core::plain_core::{PLAIN_PIECES, PlainCore};
 use crate::link_core::{LinkCore, MAX_PIECES};
 use std::alloc::{AllocError, Global};
 use std::marker::Model;
@@ -21,7 +21,7 @@ pub(crate) fn room_of(plan: &Plan) -> usize
     ensures { result ≡ room_of plan.now.ops }
 {
     match plan.ops() {
-        [] => 1,
+        [] => PLAIN_PIECES,
         _ => MAX_PIECES,
     }
 }
@@ -33,7 +33,7 @@ pub(crate) enum CoreKind<'w> {
     Planned(Box<LinkCore<'w>>),
 }
 
-/// The core of one direction of a live link. Where the plan has no operation it is a few numbers, and has room for one piece.
+/// The core of one direction of a live link. Where the plan has no operation it is a few numbers, and has room for four pieces.
 #[derive(Drop)]
 pub(crate) struct DirectionCore<'w> {
     kind: CoreKind<'w>,
@@ -74,7 +74,7 @@ impl<'w> DirectionCore<'w> {
 
     fn plain() -> DirectionCore<'w>
         ensures begins { (plan : Ops) (words : List _) → plan.ops ≡ [] → Begins plan words result }
-        ensures room { result.room ≡ 1 }
+        ensures room { result.room ≡ 4 }
     {
         DirectionCore {
             kind: CoreKind::Plain(PlainCore::new()),
@@ -90,13 +90,13 @@ impl<'w> DirectionCore<'w> {
         })
     }
 
-    /// Whether it keeps fewer pieces than it has room for.
-    pub fn has_room(&self) -> bool
-        ensures { IsTrue result ↔ (kept_count self.now < self.now.room) }
+    /// How many pieces it has room for beside those that it keeps.
+    pub fn room_left(&self) -> usize
+        ensures { result + kept_count self.now ≡ self.now.room }
     {
         match &self.kind {
-            CoreKind::Plain(core) => core.has_room(),
-            CoreKind::Planned(core) => core.has_room(),
+            CoreKind::Plain(core) => core.room_left(),
+            CoreKind::Planned(core) => core.room_left(),
         }
     }
 

@@ -1,5 +1,5 @@
-//! The core of a plan without operations: it keeps a few numbers, and no runner, queue or words.
-ghost use Rattle.std.specs.Prelude.{◌≡◌, ◌<◌, ◌≤◌, ◌↔◌, List, [], ◌∷◌, false, IsTrue, IfSome};
+//! The core of a plan without operations: it keeps a few numbers, and no runner or words.
+ghost use Rattle.std.specs.Prelude.{◌≡◌, ◌+◌, ◌<◌, ◌≤◌, List, [], ◌∷◌, false, IfSome};
 ghost use Rattle.tox_time.specs.declared.streams.item.Item.{Item as OneItem};
 ghost use Rattle.tox_time.specs.streams.Table.{final_of};
 ghost use Rattle.tox_compile.specs.Meaning.{Ops};
@@ -9,16 +9,20 @@ ghost use Rattle.tox_link.specs.link_core.Acts.{Answered, HearsPiece, HearsEnd};
 
 use crate::link_core::act::Act;
 use crate::link_core::waiting::WaitingPiece;
+use arrayvec::ArrayVec;
 use std::marker::Model;
 use tox_time::{ArrivalFault, Ending, Micros, Slice, Span, StreamPosition};
 
-/// The core of a plan without operations. It has room for one piece, which is one slice that leaves at once.
+/// How many pieces it has room for: those of one read.
+pub(crate) const PLAIN_PIECES: usize = 4;
+
+/// The core of a plan without operations. It has room for four pieces, each of which is one slice that leaves at once.
 #[derive(Drop)]
 pub(crate) struct PlainCore {
     so_far: StreamPosition,
     /// Where the next slice starts.
     given: u64,
-    waiting: Option<WaitingPiece>,
+    waiting: ArrayVec<WaitingPiece, PLAIN_PIECES>,
     end: Option<Micros>,
 }
 
@@ -38,21 +42,21 @@ impl PlainCore {
     /// A core at which nothing has arrived. Its last instant is 0.
     pub fn new() -> PlainCore
         ensures begins { (plan : Ops) (words : List _) → plan.ops ≡ [] → Begins plan words result }
-        ensures room { result.room ≡ 1 }
+        ensures room { result.room ≡ 4 }
     {
         PlainCore {
             so_far: StreamPosition::start(),
             given: 0,
-            waiting: None,
+            waiting: ArrayVec::new(),
             end: None,
         }
     }
 
-    /// Whether no piece waits.
-    pub fn has_room(&self) -> bool
-        ensures { IsTrue result ↔ (kept_count self.now < self.now.room) }
+    /// How many pieces it has room for beside those that it keeps.
+    pub fn room_left(&self) -> usize
+        ensures { result + kept_count self.now ≡ self.now.room }
     {
-        self.waiting.is_none()
+        PLAIN_PIECES - self.waiting.len()
     }
 
     /// The last instant handed in, 0 at first.
@@ -77,7 +81,7 @@ impl PlainCore {
         ensures only { IfSome result (λ last. (items : List OneItem)
             → remaining_output self.now items ≡ final_of last ∷ []) }
     {
-        if self.waiting.is_some() {
+        if !self.waiting.is_empty() {
             return None;
         }
         let end = self.end?;
@@ -89,10 +93,10 @@ impl PlainCore {
         requires room { kept_count self.old < self.old.room }
         requires later { self.old.latest ≤ instant }
         ensures hears { HearsPiece self.old self.new len instant result }
-        ensures small { self.old.room ≡ 1 }
+        ensures small { self.old.room ≡ 4 }
     {
         self.so_far = self.so_far.with_piece(len, instant)?;
-        self.waiting = Some(WaitingPiece { len, instant });
+        self.waiting.push(WaitingPiece { len, instant });
         Ok(())
     }
 
@@ -107,21 +111,21 @@ impl PlainCore {
         self.end = Some(end);
     }
 
-    /// What to do at `now`: write the piece that waits, or end once the source has.
+    /// What to do at `now`: write the first piece that waits, or end once the source has.
     pub fn on_clock(&mut self, now: Micros) -> Act
         requires { self.old.latest ≤ now }
         ensures { Answered self.old self.new now result }
     {
         self.so_far.latest = now;
-        let Some(piece) = self.waiting else {
+        if self.waiting.is_empty() {
             return match self.end {
                 Some(end) => Act::ending(&Ending::Closed(end), now, true),
                 None => Act::WaitForInput,
             };
-        };
+        }
+        let piece = self.waiting.remove(0);
         let start = self.given;
         self.given += piece.len;
-        self.waiting = None;
         Act::Write(Slice {
             span: Span {
                 start,

@@ -39,6 +39,8 @@ pub(crate) fn take_piece<C: Clock, N: Notes>(
       instant = core.new.latest;
       room = vec_capacity bytes;
     })) }
+    ensures room { OnOk result ((kept_count core.new ≡ kept_count core.old + 1)
+        × (core.new.room ≡ core.old.room) × (core_ending core.new ≡ None)) }
     ensures err { OnErr result ((N.events notes.new ≡ N.events notes.old)
         × (core.new ≡ core.old) × (window.new ≡ window.old)) }
 {

@@ -20,7 +20,7 @@ use std::boxed::Box;
 use std::sync::{Arc, Wait};
 use std::time::Clock;
 use tox_compile::Plan;
-use tox_link::{Hangup, LinkFault, PollSink, PollSource, PolledLink, Progress, READ_SIZE, drive};
+use tox_link::{Hangup, LinkFault, PollSink, PollSource, PolledLink, Progress, SCRATCH_SIZE, drive};
 use tox_log::StreamNotes;
 use tox_sockets::{LinkSockets, LinkStart, ReadySink, ReadySource, SinceStart};
 use tox_time::{Ending, Stream};
@@ -113,7 +113,7 @@ impl<'r, R: Clock + Wait> Flow<'r, R> {
         alloc: Global,
         clock: &SinceStart<'_, R>,
         sockets: &LinkSockets,
-        scratch: &mut [u8; READ_SIZE],
+        scratch: &mut [u8; SCRATCH_SIZE],
     ) -> (DirectionState<'r, R>, Result<Progress, LinkFault>)
         ensures stream { IsOf self.entry.stream result.0 }
         ensures advanced { IsAdvanceOf self.entry result.0 result.1 }

@@ -9,7 +9,7 @@ use std::alloc::Global;
 use std::mem;
 use std::sync::Wait;
 use std::time::Clock;
-use tox_link::{LinkFault, Progress, READ_SIZE};
+use tox_link::{LinkFault, Progress, SCRATCH_SIZE};
 use tox_log::StreamNotes;
 use tox_sockets::{LinkSockets, LinkStart, SinceStart};
 use tox_time::Stream;
@@ -138,7 +138,7 @@ impl<'r, R: Clock + Wait> OpenDirection<'r, R> {
         alloc: Global,
         sockets: &LinkSockets,
         start: LinkStart,
-        scratch: &mut [u8; READ_SIZE],
+        scratch: &mut [u8; SCRATCH_SIZE],
     ) -> Result<Progress, LinkFault>
         ensures stream { self.new.stream ≡ self.old.stream }
         ensures runs { Runs self.old self.new result }

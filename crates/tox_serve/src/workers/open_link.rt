@@ -16,7 +16,7 @@ use std::alloc::Global;
 use std::boxed::Box;
 use std::sync::{Arc, Wait};
 use std::time::Clock;
-use tox_link::{LinkFault, Progress, READ_SIZE};
+use tox_link::{LinkFault, Progress, SCRATCH_SIZE};
 use tox_log::StreamNotes;
 use tox_sockets::LinkSockets;
 use tox_time::{Micros, Stream};
@@ -192,7 +192,7 @@ impl<'r, R: Clock + Wait> OpenLink<'r, R> {
         rt: &'r R,
         alloc: Global,
         stream: Stream,
-        scratch: &mut [u8; READ_SIZE],
+        scratch: &mut [u8; SCRATCH_SIZE],
     ) -> Result<Progress, LinkFault>
         ensures runs { Runs (direction_of stream self.old) (direction_of stream self.new) result }
         ensures other { direction_of (other_stream stream) self.new

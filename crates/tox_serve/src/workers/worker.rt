@@ -22,7 +22,7 @@ use mio::Registry;
 use mio::event::Event;
 use std::thread;
 use std::time::Duration;
-use tox_link::READ_SIZE;
+use tox_link::SCRATCH_SIZE;
 use tox_sockets::LinkStart;
 
 /// How long a worker rests that can't wait for events, in milliseconds.
@@ -62,7 +62,7 @@ pub(crate) fn work<'s, R: ServeRuntime>(
         mut events,
         accepting,
     } = worker_poll;
-    let mut scratch = [0; READ_SIZE];
+    let mut scratch = [0; SCRATCH_SIZE];
     let mut worker = Worker {
         rt,
         run,
@@ -129,7 +129,7 @@ impl<'s, R: ServeRuntime> Worker<'s, R> {
     }
 
     /// Does what needs no event: takes connections and the timers that are due, and drives the directions whose turn it is.
-    fn go_on(&mut self, scratch: &mut [u8; READ_SIZE]) {
+    fn go_on(&mut self, scratch: &mut [u8; SCRATCH_SIZE]) {
         for place in 0..self.accepting.len() {
             if self.accepts_now(place) {
                 self.accept(place);

@@ -21,7 +21,7 @@ use std::boxed::Box;
 use std::mem;
 use std::sync::Wait;
 use std::time::Clock;
-use tox_link::{LinkFault, Progress, READ_SIZE};
+use tox_link::{LinkFault, Progress, SCRATCH_SIZE};
 use tox_time::{Micros, Stream};
 
 /// The other stream of a link.
@@ -153,7 +153,7 @@ impl<'s, R: ServeRuntime> Worker<'s, R> {
         key: LinkKey,
         link: &mut OpenLink<'s, R>,
         stream: Stream,
-        scratch: &mut [u8; READ_SIZE],
+        scratch: &mut [u8; SCRATCH_SIZE],
     )
         ensures runs { RunsTurn (record { key = key; stream = stream }) link.old link.new
             (timers_of self.old.timers) (timers_of self.new.timers)
@@ -185,7 +185,7 @@ impl<'s, R: ServeRuntime> Worker<'s, R> {
     }
 
     /// Drives each direction whose turn it is.
-    pub(super) fn take_turns(&mut self, scratch: &mut [u8; READ_SIZE]) {
+    pub(super) fn take_turns(&mut self, scratch: &mut [u8; SCRATCH_SIZE]) {
         let spare = mem::replace(&mut self.no_turns, Vec::new(self.run.alloc));
         let mut turns = mem::replace(&mut self.turns, spare);
         for turn in &turns {
@@ -196,7 +196,7 @@ impl<'s, R: ServeRuntime> Worker<'s, R> {
     }
 
     /// Drives a direction whose turn it is, if its link is open.
-    fn take_turn(&mut self, turn: Turn, scratch: &mut [u8; READ_SIZE])
+    fn take_turn(&mut self, turn: Turn, scratch: &mut [u8; SCRATCH_SIZE])
         ensures { IfSome (open_at turn.key self.old.links.places)
             (λ link. TakesTurn turn link self.old self.new) }
     {

@@ -1,17 +1,20 @@
 -- Bytes that are kept are one more event.
-use Rattle.std.proofs.Common.{refl, arith}
+use Rattle.std.proofs.Common.{refl, ap, arith}
 use Rattle.std.specs.Prelude.{vec_capacity}
 use Rattle.tox_lend.specs.Run.{Run}
+use Rattle.tox_link.specs.link_core.Core.{CoreView}
 use Rattle.tox_link.proofs.DriveLemmas.{drove-took, drove-shut}
 use Rattle.tox_link.proofs.FollowLemmas.{held-kept, drives-kept}
 use Rattle.tox_link.proofs.direction.reading_on.keep_bytes.Goals as goal
 
-pub returns-in_default-clause-drove : goal.returns-in_default-clause-drove
-returns-in_default-clause-drove g c =
-    let refused = c.in_default.ensures.err in
-    λ left written.
-    drove-shut (g.C.Clock.reported c.args.clock.now) c.args.link.now _ c.args.bytes.items left written (g.N.Notes.events c.args.notes.now) _ c.requires.held
-    c.requires.idle c.requires.room.0 refused.2 refl refl refl refused.1 refl refused.0
+pub returns-in_default-clause-stopped : goal.returns-in_default-clause-stopped
+returns-in_default-clause-stopped g c =
+    let refused = c.in_default.ensures.err in (
+      ap (λ (core : CoreView). core.bytes) refused.1,
+      λ lost left written.
+          drove-shut (g.C.Clock.reported c.args.clock.now) c.args.link.now _ lost left written (g.N.Notes.events c.args.notes.now) _ c.requires.held
+          c.requires.idle c.requires.room.0 refused.2 refl refl refl refused.1 refl refused.0,
+    )
 
 pub returns-clause-held : goal.returns-clause-held
 returns-clause-held g c =
