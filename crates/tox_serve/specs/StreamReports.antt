@@ -17,15 +17,12 @@ use Rattle.tox_serve.specs.declared.link.course.Course.{Course}
 use Rattle.tox_serve.specs.declared.link.end.Carried.{Carried}
 use Rattle.tox_serve.specs.declared.link.end.StreamEnd.{StreamEnd}
 use Rattle.tox_serve.specs.declared.link.end.StreamEnd.TheVariants as EndOf
-use Rattle.tox_serve.specs.link.LinkEnds.{carried_before, end_before_stop}
+use Rattle.tox_serve.specs.link.LinkEnds.{carried_before, carried_until_end}
 
 -- what a stream carried, by what its link reports or by its fault
 abbrev pub carried_after : {S : Type 0} → Stream → Bool → Result (TimedReport S) LinkFault → Carried
-carried_after its was_stopped (Ok timed) = record {
-  stream = its;
-  bytes = timed.report.written;
-  end = end_before_stop was_stopped timed.reading timed.report.ending;
-}
+carried_after its was_stopped (Ok timed) =
+    carried_until_end its timed.report.written timed.reading timed.report.ending was_stopped
 carried_after its was_stopped (Err fault) = carried_before its fault
 
 -- a link ended so at a reading of its clock, after so many written bytes, and said what its plan means for what it heard

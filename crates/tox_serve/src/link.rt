@@ -7,3 +7,4 @@ pub(crate) mod look_up;
 pub(crate) mod opening;
 pub(crate) mod reached;
 pub(crate) mod source_notes;
+pub(crate) mod stream_end;

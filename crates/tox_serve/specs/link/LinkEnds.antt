@@ -63,6 +63,11 @@ abbrev pub end_before_stop : Bool → ℕ → Ending → StreamEnd
 end_before_stop true reading ending = Broken CauseOf.Stopped
 end_before_stop false reading ending = Ended reading ending
 
+-- what a stream carried that has written so many bytes and that ended so by its plan, at a reading of its clock
+abbrev pub carried_until_end : Stream → ℕ → ℕ → Ending → Bool → Carried
+carried_until_end stream bytes reading ending was_stopped =
+    record { stream = stream; bytes = bytes; end = end_before_stop was_stopped reading ending }
+
 -- the last line of a log whose stream ended so after so many bytes
 abbrev pub last_line_of : ℕ → StreamEnd → LastLine
 last_line_of bytes (Ended reading ending) = LastOf.Ended reading ending

@@ -1,16 +1,16 @@
 //! How a served link ended, and what the book keeps of it.
 ghost use Rattle.std.specs.Prelude.{◌≡◌};
 ghost use Rattle.tox_time.specs.declared.streams.stream.Stream.TheVariants as StreamOf;
-ghost use Rattle.tox_serve.specs.link.LinkEnds.{broken_link, broken_side, carried_before, carried_link_end, end_before_stop, ending_of, is_refused, last_line_of, nothing_carried, settled, side_end};
+ghost use Rattle.tox_serve.specs.link.LinkEnds.{broken_link, broken_side, carried_before, carried_link_end, carried_until_end, end_before_stop, ending_of, is_refused, last_line_of, nothing_carried, settled, side_end};
 
-use tox_link::{Book, LinkFault, TimedReport};
+use tox_link::{Book, LinkFault};
 use tox_log::{BreakCause, LastLine};
 use tox_time::{Ending, Micros, Stream};
 
 /// How one direction ended.
 #[derive(Clone, Copy)]
 pub(crate) enum StreamEnd {
-    /// At this reading of its clock it ended so.
+    /// Its plan ended it so at this reading of its clock.
     Ended(Micros, Ending),
     Broken(BreakCause),
 }
@@ -23,14 +23,14 @@ pub(crate) struct Carried {
     pub(crate) end: StreamEnd,
 }
 
-/// What is reported of one side of a link: the bytes written, and how it ended, or None if it is broken.
+/// The report of one side of a link: the bytes written, and the ending. None: it is broken.
 #[derive(Clone, Copy)]
 pub(crate) struct SideEnd {
     pub(crate) bytes: u64,
     pub(crate) ending: Option<Ending>,
 }
 
-/// What is reported of a link.
+/// The report of a link.
 #[derive(Clone, Copy)]
 pub(crate) struct LinkEnd {
     pub(crate) number: u64,
@@ -39,7 +39,7 @@ pub(crate) struct LinkEnd {
 }
 
 impl StreamEnd {
-    /// How a stream ended that ended so by its plan, at a reading of its clock: a stop of its link before that breaks it.
+    /// The end of a stream that its plan ended at a reading of its clock. A stop of its link before that breaks it.
     pub(crate) fn before_stop(was_stopped: bool, reading: Micros, ending: Ending) -> StreamEnd
         ensures { result ≡ end_before_stop was_stopped reading ending }
     {
@@ -52,18 +52,20 @@ impl StreamEnd {
 }
 
 impl Carried {
-    /// What a stream carried that ended, by its plan or once its link was stopped.
-    pub(crate) fn until_end<S>(stream: Stream, timed: &TimedReport<S>, was_stopped: bool) -> Carried
-        ensures { result ≡ record {
-          stream = stream;
-          bytes = timed.now.report.written;
-          end = end_before_stop was_stopped timed.now.reading timed.now.report.ending;
-        } }
+    /// What a stream carried that its plan ended at a reading of its clock. A stop of its link before that breaks it.
+    pub(crate) fn until_end(
+        stream: Stream,
+        bytes: u64,
+        reading: Micros,
+        ending: Ending,
+        was_stopped: bool,
+    ) -> Carried
+        ensures { result ≡ carried_until_end stream bytes reading ending was_stopped }
     {
         Carried {
             stream,
-            bytes: timed.report.written,
-            end: StreamEnd::before_stop(was_stopped, timed.reading, timed.report.ending),
+            bytes,
+            end: StreamEnd::before_stop(was_stopped, reading, ending),
         }
     }
 
@@ -143,7 +145,7 @@ impl SideEnd {
 }
 
 impl LinkEnd {
-    /// A link of which nothing was carried: its upstream wasn't reached, or memory or a thread was refused.
+    /// A link that carried nothing: its upstream wasn't reached, or memory or a thread was refused.
     pub(crate) fn broken(number: u64) -> LinkEnd
         ensures { result ≡ broken_link number }
     {
@@ -174,7 +176,7 @@ impl LinkEnd {
         }
     }
 
-    /// Counts the bytes of a link in the book, and then notes how both its sides ended.
+    /// Counts the bytes of the link in the book, and then the endings of both sides.
     pub(crate) fn settle(&self, book: &mut Book)
         ensures { book.new ≡ settled self.now book.old }
     {

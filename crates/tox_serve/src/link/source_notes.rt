@@ -1,15 +1,16 @@
 //! The notes of a stream beside its sockets.
 ghost use Rattle.std.specs.Prelude.{◌≡◌, None, IfSome};
 
+use crate::link::end::Carried;
 use std::alloc::{AllocError, Global};
 use std::marker::Model;
 use std::sync::{Arc, Wait};
 use tox_link::{LinkEvent, Notes};
-use tox_log::{LastLine, StreamNotes};
+use tox_log::StreamNotes;
 use tox_sockets::LinkSockets;
 use tox_time::Stream;
 
-/// The notes of a stream. Where its source has reset the connection, its end is noted as a reset.
+/// The notes of a stream. If the source has reset the connection, its end is noted as a reset.
 #[derive(Drop)]
 pub(crate) struct SourceNotes<'r, R> {
     notes: StreamNotes<'r, R>,
@@ -26,7 +27,7 @@ impl<'r, R> Model for SourceNotes<'r, R> {
 }
 
 impl<'r, R: Wait> SourceNotes<'r, R> {
-    /// Notes of a stream of a link that keep nothing. None where the link can't be shared by one more.
+    /// Notes that keep nothing. None if the link can't be shared once more.
     pub(crate) fn none(
         rt: &'r R,
         sockets: &Arc<LinkSockets, Global>,
@@ -53,16 +54,16 @@ impl<'r, R: Wait> SourceNotes<'r, R> {
         }
     }
 
-    /// From now on the stream is noted so.
+    /// Replaces the notes of the stream.
     pub(crate) fn change(&mut self, notes: StreamNotes<'r, R>)
         ensures { self.new ≡ notes.entry }
     {
         self.notes = notes;
     }
 
-    /// The stream has ended, or broke off.
-    pub(crate) fn end(&self, last: &LastLine) {
-        self.notes.end(last);
+    /// Notes the last line of the stream's log: how the stream ended, and what it carried.
+    pub(crate) fn end(&self, carried: &Carried) {
+        self.notes.end(&carried.last_line());
     }
 }
 

@@ -10,11 +10,12 @@ use crate::link::course::Course;
 use crate::link::end::Carried;
 use crate::link::logs::notes_of;
 use crate::link::source_notes::SourceNotes;
+use crate::link::stream_end::{break_stream, end_stream};
 use crate::proxy::links::ProxyLinks;
 use crate::run::ServeRun;
 use crate::runtime::ServeRuntime;
 use std::alloc::Global;
-use std::sync::Arc;
+use std::sync::{Arc, Wait};
 use tox_link::{Ends, LinkFault, TimedReport, carry_timed};
 use tox_sockets::{LinkSockets, LinkStart, SinceStart, UntilCut, UntilDue};
 use tox_time::{MAX_BYTES, Real, Stream};
@@ -28,7 +29,7 @@ pub(crate) struct Direction {
 }
 
 impl Direction {
-    /// The direction of a course's stream. None where it can't share the link.
+    /// The direction of a course's stream. None if the link can't be shared once more.
     pub(crate) fn new(link: &Arc<LinkSockets, Global>, course: Course) -> Option<Direction>
         ensures course { IfSome result (λ direction. direction.course ≡ course) }
         ensures link { IfSome result (λ direction.
@@ -45,7 +46,7 @@ impl Direction {
     }
 }
 
-/// A stream that was carried to its end. It keeps its writer, which has failed exactly where a write broke the stream.
+/// A stream that was carried to its end. It keeps its writer, which has failed exactly if a write broke the stream.
 #[derive(Drop)]
 pub(crate) struct CarriedStream<'a, 'r, R> {
     pub(crate) carried: Carried,
@@ -66,8 +67,7 @@ fn writer_of<'a, 'r, R: ServeRuntime>(
     UntilDue::new(rt, link, course.stream, clock, course.plan.ops())
 }
 
-/// Carries one direction to its end, which its log tells too. After a fault both sockets are reset, so that the other direction
-/// ends too.
+/// Carries one direction to its end.
 pub(crate) fn carry_stream<'a, 'r, R: ServeRuntime>(
     rt: &'r R,
     run: &ServeRun<'_>,
@@ -85,12 +85,11 @@ pub(crate) fn carry_stream<'a, 'r, R: ServeRuntime>(
         sockets: shared,
     } = direction;
     let clock = SinceStart::new(rt, start);
-    let sockets = link.ends_of(course.stream);
     let kept = notes_of(rt, run, links, number, course.stream);
     let mut notes = SourceNotes::of(kept, shared, course.stream);
     let mut ends = Ends {
         writer: Real::new(writer_of(rt, link, &course, clock)),
-        hangup: sockets,
+        hangup: link.ends_of(course.stream),
     };
     let Course {
         stream,
@@ -109,25 +108,27 @@ pub(crate) fn carry_stream<'a, 'r, R: ServeRuntime>(
         &mut notes,
         &run.gate,
     );
-    if done.is_err() {
-        sockets.reset();
-    }
     let Ends { writer, hangup } = ends;
-    let carried = carried_of(stream, &done, hangup.was_stopped);
-    notes.end(&carried.last_line());
+    let carried = end_carried(link, stream, &done, hangup.was_stopped, &notes);
     CarriedStream { carried, writer }
 }
 
-/// What a stream carried, by what its link reports or by its fault.
-fn carried_of<S>(
+/// Ends a stream by the report of its link, or breaks it off by the fault. Returns what it carried.
+fn end_carried<S, R: Wait>(
+    link: &LinkSockets,
     stream: Stream,
     done: &Result<TimedReport<S>, LinkFault>,
     was_stopped: bool,
+    notes: &SourceNotes<'_, R>,
 ) -> Carried
     ensures { result ≡ carried_after stream was_stopped done.now }
 {
     match done {
-        Ok(timed) => Carried::until_end(stream, timed, was_stopped),
-        Err(fault) => Carried::until_fault(stream, fault),
+        Ok(timed) => {
+            let TimedReport { report, reading } = timed;
+            let (bytes, ending) = (report.written, report.ending);
+            end_stream(stream, bytes, *reading, ending, was_stopped, notes)
+        }
+        Err(fault) => break_stream(link, stream, fault, notes),
     }
 }

@@ -1,5 +1,5 @@
 //! One direction of a link while it goes on: the step machine and its two ends.
-ghost use Rattle.std.specs.Prelude.{◌≡◌, Bool, true, false, List, IfSome};
+ghost use Rattle.std.specs.Prelude.{◌≡◌, Bool, true, false, IfSome};
 ghost use Rattle.tox_time.specs.Time.{IsInstant};
 ghost use Rattle.tox_link.specs.direction.Follows.{IsHeld, IsNew};
 ghost use Rattle.tox_link.specs.declared.link_fault.LinkFault.TheVariants.{OutOfMemory};
@@ -8,20 +8,21 @@ ghost use Rattle.std.proofs.Props.{props};
 ghost use Rattle.tox_serve.specs.workers.Ready.{IsHeld-prop};
 ghost use Rattle.tox_link.specs.Meaning.{MeansPlan};
 ghost use Rattle.tox_link.specs.Reports.{is_write_fault};
-ghost use Rattle.tox_serve.specs.link.LinkEnds.{carried_before, end_before_stop, is_write_break};
+ghost use Rattle.tox_serve.specs.link.LinkEnds.{carried_before, carried_until_end, is_write_break};
 
 use crate::link::course::Course;
-use crate::link::end::{Carried, StreamEnd};
+use crate::link::end::Carried;
 use crate::link::source_notes::SourceNotes;
+use crate::link::stream_end::{break_stream, end_stream};
 use crate::workers::open_direction::DirectionState;
-use crate::workers::socket_event::SocketEvent;
 use std::alloc::Global;
 use std::boxed::Box;
 use std::sync::{Arc, Wait};
 use std::time::Clock;
 use tox_compile::Plan;
-use tox_link::{Hangup, LinkFault, PollSink, PollSource, PolledLink, Progress, SCRATCH_SIZE, drive};
-use tox_log::StreamNotes;
+use tox_link::{
+    Hangup, LinkFault, PollSink, PollSource, PolledLink, Progress, SCRATCH_SIZE, drive,
+};
 use tox_sockets::{LinkSockets, LinkStart, ReadySink, ReadySource, SinceStart};
 use tox_time::{Ending, Stream};
 use tox_words::Words;
@@ -42,7 +43,7 @@ pub(crate) struct Flow<'r, R> {
     pub(crate) ghost writable: { sink.failed ≡ false },
 }
 
-/// A direction that has ended. It keeps its sink, which has failed exactly where a write broke the direction.
+/// A direction that has ended. It keeps its sink, which has failed exactly if a write broke the direction.
 #[derive(Drop)]
 pub(crate) struct EndedFlow<'r, R> {
     pub(crate) carried: Carried,
@@ -55,8 +56,8 @@ impl<'r, R: Clock + Wait> Flow<'r, R> {
     ghost use Rattle.tox_serve.specs.workers.Directions.{IsOf};
     ghost use Rattle.tox_serve.specs.workers.Driven.{IsAdvanceOf};
 
-    /// A direction of a course, at which nothing has come and which isn't logged. `closing` tells whether the source's peer was reported to send no
-    /// more. None if out of memory.
+    /// A new direction of a course, without a log. `closing`: the peer of its source was reported to have closed its writing half.
+    /// None if out of memory.
     pub(crate) fn new(
         rt: &'r R,
         alloc: Global,
@@ -80,7 +81,7 @@ impl<'r, R: Clock + Wait> Flow<'r, R> {
         Some(Flow::of(stream, link, source, sink, notes))
     }
 
-    /// A direction of these parts, none of which has done anything.
+    /// A direction of these parts, which may be driven.
     fn of(
         stream: Stream,
         link: Box<PolledLink>,
@@ -88,10 +89,12 @@ impl<'r, R: Clock + Wait> Flow<'r, R> {
         sink: ReadySink<'r, R>,
         notes: SourceNotes<'r, R>,
     ) -> Flow<'r, R>
-        requires fresh { IsNew link.value }
         requires held { IsHeld link.value }
-        requires reads { source.failed ≡ false }
-        requires writes { sink.failed ≡ false }
+        requires read { IsInstant link.value.core.latest }
+        requires readable { link.value.ended ≡ false → source.failed ≡ false }
+        requires failed { link.value.source ≡ AtFault → source.failed ≡ true }
+        requires unlimited { ¬ (link.value.source ≡ AtLastRead) }
+        requires writable { sink.failed ≡ false }
         ensures stream { result.stream ≡ stream }
         ensures link { result.link ≡ link }
         ensures source { result.source ≡ source }
@@ -106,8 +109,8 @@ impl<'r, R: Clock + Wait> Flow<'r, R> {
         }
     }
 
-    /// Drives its step machine. Returns how far the direction is then, and what was answered. Where it ends it is hung up, and after a
-    /// fault both sockets are reset. Nothing waits once its link is stopped, since its next write would fail: it is broken by a write.
+    /// Drives the step machine. Returns the state of the direction after that, and the answer. A direction that would wait at a stopped
+    /// link is broken by a write instead, since its next write would fail.
     pub(crate) fn advance(
         self,
         alloc: Global,
@@ -160,8 +163,7 @@ impl<'r, R: Clock + Wait> Flow<'r, R> {
                 (DirectionState::Going(flow), Ok(Progress::Again))
             }
             Ok(Progress::Ended(ending)) => {
-                let carried = end(&link, sockets, stream, &ending, &notes);
-                let ended = EndedFlow { carried, sink };
+                let ended = end(sockets, stream, &link, &ending, &notes, sink);
                 (DirectionState::Ended(ended), Ok(Progress::Ended(ending)))
             }
             Err(fault) => {
@@ -171,20 +173,20 @@ impl<'r, R: Clock + Wait> Flow<'r, R> {
         }
     }
 
-    /// Breaks it off, out of memory.
-    pub(crate) fn break_off(self) -> EndedFlow<'r, R>
+    /// Breaks the direction off: out of memory.
+    pub(crate) fn break_off(self, sockets: &LinkSockets) -> EndedFlow<'r, R>
         ensures { result.carried ≡ carried_before self.entry.stream
             (OutOfMemory self.entry.link.value.written) }
     {
         let fault = LinkFault::OutOfMemory(self.link.written());
         EndedFlow {
-            carried: break_off(self.stream, &fault, &self.notes),
+            carried: break_stream(sockets, self.stream, &fault, &self.notes),
             sink: self.sink,
         }
     }
 }
 
-/// The step machine of a plan. It keeps its words where the plan draws.
+/// The step machine of a plan. It keeps its words if the plan draws.
 fn link_of(alloc: Global, plan: Plan, words: Words) -> Option<PolledLink>
     ensures meaning { IfSome result (λ link. MeansPlan plan words link.core) }
     ensures fresh { IfSome result IsNew }
@@ -197,7 +199,7 @@ fn link_of(alloc: Global, plan: Plan, words: Words) -> Option<PolledLink>
     }
 }
 
-/// Resets both sockets after a fault, and tells what the direction carried before it.
+/// Breaks a direction off after a fault.
 fn fail<'r, R: Wait>(
     sockets: &LinkSockets,
     stream: Stream,
@@ -208,41 +210,26 @@ fn fail<'r, R: Wait>(
     requires { sink.failed ≡ is_write_fault fault.now }
     ensures { result.carried ≡ carried_before stream fault.now }
 {
-    sockets.ends_of(stream).reset();
-    let carried = break_off(stream, fault, notes);
+    let carried = break_stream(sockets, stream, fault, notes);
     EndedFlow { carried, sink }
 }
 
-/// Tells what a direction carried before a fault, in its log too.
-fn break_off<R: Wait>(stream: Stream, fault: &LinkFault, notes: &SourceNotes<'_, R>) -> Carried
-    ensures { result ≡ carried_before stream fault.now }
-{
-    let carried = Carried::until_fault(stream, fault);
-    notes.end(&carried.last_line());
-    carried
-}
-
-/// Hangs a direction up that has ended, and tells what it carried, in its log too.
-fn end<R: Wait>(
-    link: &PolledLink,
+/// Hangs a direction up that its plan has ended.
+fn end<'r, R: Wait>(
     sockets: &LinkSockets,
     stream: Stream,
+    link: &PolledLink,
     ending: &Ending,
-    notes: &SourceNotes<'_, R>,
-) -> Carried
-    ensures { (was_stopped : Bool) × (result ≡ record {
-      stream = stream;
-      bytes = link.now.written;
-      end = end_before_stop was_stopped link.now.core.latest ending.now;
-    }) }
+    notes: &SourceNotes<'r, R>,
+    sink: ReadySink<'r, R>,
+) -> EndedFlow<'r, R>
+    requires { sink.failed ≡ false }
+    ensures { (was_stopped : Bool) × (result.carried
+        ≡ carried_until_end stream link.now.written link.now.core.latest ending.now was_stopped) }
 {
     let mut ends = sockets.ends_of(stream);
     ends.hang_up(*ending, link.has_read_all());
-    let carried = Carried {
-        stream,
-        bytes: link.written(),
-        end: StreamEnd::before_stop(ends.was_stopped, link.latest(), *ending),
-    };
-    notes.end(&carried.last_line());
-    carried
+    let (bytes, reading) = (link.written(), link.latest());
+    let carried = end_stream(stream, bytes, reading, *ending, ends.was_stopped, notes);
+    EndedFlow { carried, sink }
 }

@@ -14,7 +14,7 @@ use tox_log::StreamNotes;
 use tox_sockets::{LinkSockets, LinkStart, SinceStart};
 use tox_time::Stream;
 
-/// How far a direction is.
+/// The state of a direction.
 #[derive(Drop)]
 pub(crate) enum DirectionState<'r, R> {
     Going(Flow<'r, R>),
@@ -30,7 +30,7 @@ pub(crate) struct OpenDirection<'r, R> {
     pub(crate) state: DirectionState<'r, R>,
     /// When its earliest timer is due, by the worker's clock.
     armed: Option<u64>,
-    /// Whether a turn of it waits.
+    /// Whether it has a turn that waits.
     has_turn: bool,
     ghost of_stream: { IsOf stream state } by { IsOf-prop stream state },
 }
@@ -58,7 +58,7 @@ impl<'r, R: Clock + Wait> OpenDirection<'r, R> {
         }
     }
 
-    /// Has a turn of it wait, unless one does. Whether none did.
+    /// Claims a turn. False if it has one.
     pub(crate) fn claim_turn(&mut self) -> bool
         ensures claims { result ≡ not self.old.has_turn }
         ensures claimed { self.new.has_turn ≡ true }
@@ -69,7 +69,7 @@ impl<'r, R: Clock + Wait> OpenDirection<'r, R> {
         claims
     }
 
-    /// Its turn has come.
+    /// Takes its turn.
     pub(crate) fn take_turn(&mut self)
         ensures taken { self.new.has_turn ≡ false }
         ensures same { IsSameDirection self.old self.new }
@@ -77,7 +77,7 @@ impl<'r, R: Clock + Wait> OpenDirection<'r, R> {
         self.has_turn = false;
     }
 
-    /// From now on it is noted so, unless it has ended.
+    /// Replaces its notes, unless it has ended.
     pub(crate) fn log(&mut self, notes: StreamNotes<'r, R>)
         ensures state { IsNotedSo notes.entry self.old.state self.new.state }
         ensures same { (self.new.stream ≡ self.old.stream) × (self.new.armed ≡ self.old.armed)
@@ -88,7 +88,7 @@ impl<'r, R: Clock + Wait> OpenDirection<'r, R> {
         }
     }
 
-    /// The system reported something of its source. Whether it is to be driven.
+    /// Notes an event of its source. Whether the direction is to be driven.
     pub(crate) fn note_source(&mut self, event: &SocketEvent) -> bool
         ensures stream { self.new.stream ≡ self.old.stream }
         ensures after { IsAfterSource event.now self.old self.new result }
@@ -102,7 +102,7 @@ impl<'r, R: Clock + Wait> OpenDirection<'r, R> {
         }
     }
 
-    /// The system reported something of its target. Whether it is to be driven.
+    /// Notes an event of its target. Whether the direction is to be driven.
     pub(crate) fn note_target(&mut self, event: &SocketEvent) -> bool
         ensures stream { self.new.stream ≡ self.old.stream }
         ensures after { IsAfterTarget event.now self.old self.new result }
@@ -120,7 +120,7 @@ impl<'r, R: Clock + Wait> OpenDirection<'r, R> {
         self.armed == Some(due)
     }
 
-    /// A timer of it is over.
+    /// A timer of it has fired.
     pub(crate) fn disarm(&mut self, due: u64)
         ensures armed { self.new.armed ≡ disarmed due self.old.armed }
         ensures same { (self.new.stream ≡ self.old.stream) × (self.new.state ≡ self.old.state)
@@ -131,7 +131,7 @@ impl<'r, R: Clock + Wait> OpenDirection<'r, R> {
         }
     }
 
-    /// Drives it for its turn, and returns the answer. One that has ended before waits.
+    /// Drives it for its turn, and returns the answer. A direction that has ended waits.
     pub(crate) fn run(
         &mut self,
         rt: &'r R,
@@ -156,8 +156,8 @@ impl<'r, R: Clock + Wait> OpenDirection<'r, R> {
         answer
     }
 
-    /// It waits until an instant of the worker's clock. Whether it needs a timer for that: one that is due before serves too, and drives
-    /// it once more.
+    /// Waits until an instant of the worker's clock. Whether that needs a new timer: an earlier one serves too, and drives it once
+    /// more.
     pub(crate) fn arm(&mut self, due: u64) -> bool
         ensures armed { self.new.armed ≡ earlier_of self.old.armed (Some due) }
         ensures same { (self.new.stream ≡ self.old.stream) × (self.new.state ≡ self.old.state)
@@ -171,14 +171,14 @@ impl<'r, R: Clock + Wait> OpenDirection<'r, R> {
         true
     }
 
-    /// Breaks it off, out of memory.
-    pub(crate) fn break_off(&mut self)
+    /// Breaks it off, unless it has ended: out of memory.
+    pub(crate) fn break_off(&mut self, sockets: &LinkSockets)
         ensures state { IsBrokenOffFrom self.old.stream self.old.state self.new.state }
         ensures same { (self.new.stream ≡ self.old.stream) × (self.new.armed ≡ self.old.armed)
             × (self.new.has_turn ≡ self.old.has_turn) }
     {
         self.state = match mem::replace(&mut self.state, DirectionState::Driven) {
-            DirectionState::Going(flow) => DirectionState::Ended(flow.break_off()),
+            DirectionState::Going(flow) => DirectionState::Ended(flow.break_off(sockets)),
             other => other,
         };
     }

@@ -45,8 +45,8 @@ impl<'r, R: Clock + Wait> OpenLink<'r, R> {
     ghost use Rattle.tox_serve.specs.workers.Reports.{IsAfterSource, IsAfterTarget, IsNotedSo};
     ghost use Rattle.tox_serve.specs.workers.Steps.{Runs, needs_timer, worker_instant};
 
-    /// A link that was opened, at which nothing has come and which isn't logged. `closing` tells whether its client was reported to send
-    /// no more. None if out of memory.
+    /// A link that was opened, new and without logs. `closing`: its client was reported to have closed its writing half. None if out
+    /// of memory.
     pub(crate) fn new(
         rt: &'r R,
         alloc: Global,
@@ -87,7 +87,7 @@ impl<'r, R: Clock + Wait> OpenLink<'r, R> {
         }
     }
 
-    /// Which link it is.
+    /// The name of the link.
     pub(crate) fn name(&self) -> LinkName
         ensures { result ≡ record { place = self.now.proxy; number = self.now.number } }
     {
@@ -97,7 +97,7 @@ impl<'r, R: Clock + Wait> OpenLink<'r, R> {
         }
     }
 
-    /// From now on its streams are noted so.
+    /// Replaces the notes of its streams.
     pub(crate) fn log(&mut self, up: StreamNotes<'r, R>, down: StreamNotes<'r, R>)
         ensures up { IsNotedSo up.entry self.old.up.state self.new.up.state }
         ensures down { IsNotedSo down.entry self.old.down.state self.new.down.state }
@@ -111,8 +111,7 @@ impl<'r, R: Clock + Wait> OpenLink<'r, R> {
         self.down.log(down);
     }
 
-    /// The system reported something of a socket. Tells whether the direction that reads from it and the one that writes to it are
-    /// to be driven.
+    /// Notes an event of a socket. Whether the direction that reads from it is to be driven, and whether the one that writes to it.
     pub(crate) fn note(&mut self, peer: Peer, event: &SocketEvent) -> (bool, bool)
         ensures source { IsAfterSource event.now (direction_of (stream_from peer) self.old)
             (direction_of (stream_from peer) self.new) result.0 }
@@ -127,7 +126,7 @@ impl<'r, R: Clock + Wait> OpenLink<'r, R> {
         }
     }
 
-    /// Has a turn of a direction wait, unless one does. Whether none did.
+    /// Claims a turn for a direction. False if it has one.
     pub(crate) fn claim_turn(&mut self, stream: Stream) -> bool
         ensures claims { result ≡ not (direction_of stream self.old).has_turn }
         ensures claimed { SetsTurn stream true self.old self.new }
@@ -138,7 +137,7 @@ impl<'r, R: Clock + Wait> OpenLink<'r, R> {
         }
     }
 
-    /// The turn of a direction has come.
+    /// Takes the turn of a direction.
     pub(crate) fn take_turn(&mut self, stream: Stream)
         ensures { SetsTurn stream false self.old self.new }
     {
@@ -158,7 +157,7 @@ impl<'r, R: Clock + Wait> OpenLink<'r, R> {
         }
     }
 
-    /// A timer of a direction is over.
+    /// A timer of a direction has fired.
     pub(crate) fn disarm(&mut self, stream: Stream, due: u64)
         ensures { Disarms stream due self.old self.new }
     {
@@ -175,7 +174,7 @@ impl<'r, R: Clock + Wait> OpenLink<'r, R> {
         self.since.worker.saturating_add(until.get())
     }
 
-    /// A direction waits until an instant of the worker's clock. Whether it needs a timer for that.
+    /// A direction waits until an instant of the worker's clock. Whether that needs a new timer.
     pub(crate) fn arm(&mut self, stream: Stream, due: u64) -> bool
         ensures needs { result ≡ needs_timer (direction_of stream self.old).armed due }
         ensures arms { Arms stream due self.old self.new }
@@ -186,7 +185,7 @@ impl<'r, R: Clock + Wait> OpenLink<'r, R> {
         }
     }
 
-    /// Drives a direction for its turn, and returns the answer. One that has ended before waits.
+    /// Drives a direction for its turn, and returns the answer. A direction that has ended waits.
     pub(crate) fn run_direction(
         &mut self,
         rt: &'r R,
@@ -206,15 +205,14 @@ impl<'r, R: Clock + Wait> OpenLink<'r, R> {
         }
     }
 
-    /// Breaks the link off, out of memory.
+    /// Breaks the link off: out of memory.
     pub(crate) fn break_off(&mut self)
         ensures up { IsBrokenOffFrom StreamOf.Upstream self.old.up.state self.new.up.state }
         ensures down { IsBrokenOffFrom StreamOf.Downstream self.old.down.state self.new.down.state }
         ensures same { IsSameLink self.old self.new }
     {
-        self.sockets.ends_of(Stream::Upstream).reset();
-        self.up.break_off();
-        self.down.break_off();
+        self.up.break_off(&self.sockets);
+        self.down.break_off(&self.sockets);
     }
 
     /// Why the link broke, if both its directions have ended, and it did.
