@@ -11,6 +11,7 @@ mod nearest_name;
 mod parts;
 mod pick_text;
 mod plan_text;
+mod prepend_buffer;
 mod printer;
 mod result_line;
 mod short_form;

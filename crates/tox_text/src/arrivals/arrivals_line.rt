@@ -2,8 +2,7 @@
 ghost use Rattle.std.specs.Prelude.{◌≡◌, ◌==◌, ◌<◌, length, option_map, position, IfSome};
 ghost use Rattle.tox_text.specs.arrivals.Line.{cut_at, digit_count, instant_of, line_of, line_seen, line_parts, parts_seen};
 
-use std::str;
-use tox_time::{HORIZON, Micros, parse_decimal};
+use tox_time::Micros;
 
 /// How many digits an instant may have.
 const MAX_DIGITS: usize = 16;
@@ -62,15 +61,19 @@ fn place_of(text: &[u8], separator: u8) -> Option<usize>
     text.iter().position(|byte| *byte == separator)
 }
 
-/// The instant that a text writes.
+/// The instant that a text writes. The value of so few digits fits 64 bits.
 fn instant_of(text: &[u8]) -> Option<Micros>
     ensures { result ≡ instant_of text.now }
 {
-    let Ok(text) = str::from_utf8(text) else {
+    if text.is_empty() || text.len() > MAX_DIGITS {
         return None;
-    };
-    let Some(micros) = parse_decimal(text, MAX_DIGITS, HORIZON) else {
-        return None;
-    };
+    }
+    let mut micros = 0;
+    for digit in text {
+        if !digit.is_ascii_digit() {
+            return None;
+        }
+        micros = 10 * micros + u64::from(digit - b'0');
+    }
     Micros::new(micros)
 }
