@@ -12,7 +12,6 @@ use Rattle.tox_time.specs.streams.Arrivals.{arrival_list, next_chunk}
 use Rattle.tox_time.specs.streams.Neighbours.{LiesInChunk}
 use Rattle.tox_time.specs.streams.Stream.{IsStreamFrom, arrived as count_of, has_final, latest}
 use Rattle.tox_time.proofs.StreamLemmas.{arrived-append}
-use Rattle.tox_lend.specs.Window.{Pieces}
 use Rattle.tox_text.specs.arrivals.ArrivalsText.{Arrived, lines_of, no_arrivals, after_line, after_lines}
 use Rattle.tox_text.specs.arrivals.Checked.{AreArrivals}
 use Rattle.tox_text.specs.arrivals.Line.{arrival, end, line_of}
@@ -25,12 +24,12 @@ use Rattle.tox_runs.specs.runs.SecondPass.{IsPieceOf, chunk_at}
 use Rattle.tox_runs.proofs.TextTurns.{arrival_behind, arrival_in, bytes_in, cancel, edge_behind, lines_grow}
 
 -- the lines that are left, from the n-th on, leave all that arrived; a source stands before what they add
-pub record IsUnderWay (arrived : Arrived) (n : ℕ) (lines : List (List ℕ)) (stands : ℕ → List Item → Type 0) (window : Pieces) (later : List Item) : Type 0 where
+pub record IsUnderWay (arrived : Arrived) (n : ℕ) (lines : List (List ℕ)) (stands : ℕ → List Item → Type 0) (position : ℕ) (later : List Item) : Type 0 where
   pub before : Arrived
   pub rest : after_lines n lines before ≡ Ok arrived
   pub items : before.items ++ later ≡ arrived.items
   pub counted : length before.bytes ≡ count_of before.items
-  pub window_is : window ≡ record { held = []; room = 1; stop = count_of before.items }
+  pub position_is : position ≡ count_of before.items
   pub ready : stands (count_of before.items) later
 
 -- the first line of what is left, and the others
@@ -40,15 +39,15 @@ pub line_next : (left : Option (Bor (List ℕ))) (rest : Bor (List ℕ)) (line :
 line_next left rest line others is lines = ap (λ left. lines_left (option_map (λ text. text.now) left)) is ∙ lines
 
 -- at first all is left
-pub IsUnderWay-first : (arrived : Arrived) (lines : List (List ℕ)) (stands : ℕ → List Item → Type 0) (window : Pieces)
+pub IsUnderWay-first : (arrived : Arrived) (lines : List (List ℕ)) (stands : ℕ → List Item → Type 0) (position : ℕ)
     → after_lines 1 lines no_arrivals ≡ Ok arrived → stands 0 arrived.items
-    → window ≡ record { held = []; room = 1; stop = 0 } → IsUnderWay arrived 1 lines stands window arrived.items
-IsUnderWay-first arrived lines stands window rest ready empty = record {
+    → position ≡ 0 → IsUnderWay arrived 1 lines stands position arrived.items
+IsUnderWay-first arrived lines stands position rest ready empty = record {
   before = no_arrivals;
   rest = rest;
   items = refl;
   counted = refl;
-  window_is = empty;
+  position_is = empty;
   ready = ready;
 }
 
@@ -61,20 +60,20 @@ pub record IsAtData (arrived : Arrived) (n : ℕ) (lines : List (List ℕ)) (sta
   pub few : start + length bytes ≤ 2 ^ 40
   pub of : (room : ℕ) → IsPieceOf arrived (record { start = start; bytes = bytes; instant = t; room = room })
   pub ready : stands start (chunk_at start (length bytes) t ∷ others)
-  pub then : (after : ℕ → List Item → Type 0) (left : Pieces) → after (start + length bytes) others
-      → left ≡ record { held = []; room = 1; stop = start + length bytes } → IsUnderWay arrived (n + 1) lines after left others
+  pub then : (after : ℕ → List Item → Type 0) → after (start + length bytes) others
+      → IsUnderWay arrived (n + 1) lines after (start + length bytes) others
 
-pub at_data : (arrived : Arrived) (n : ℕ) (left : List (List ℕ)) (line : List ℕ) (lines : List (List ℕ)) (stands : ℕ → List Item → Type 0) (window : Pieces)
-    (later : List Item) (start t : ℕ) (bytes : List ℕ) → AreArrivals arrived
-    → start ≡ window.stop → left ≡ line ∷ lines → line_of line ≡ Some (arrival t bytes) → IsUnderWay arrived n left stands window later
+pub at_data : (arrived : Arrived) (n : ℕ) (left : List (List ℕ)) (line : List ℕ) (lines : List (List ℕ)) (stands : ℕ → List Item → Type 0) (start : ℕ)
+    (later : List Item) (t : ℕ) (bytes : List ℕ) → AreArrivals arrived
+    → left ≡ line ∷ lines → line_of line ≡ Some (arrival t bytes) → IsUnderWay arrived n left stands start later
     → IsAtData arrived n lines stands start later t bytes
-at_data arrived n left line lines stands window later start t bytes arrivals starts split is under_way =
-    let on : IsUnderWay arrived n (line ∷ lines) stands window later = subst (λ left. IsUnderWay arrived n left stands window later) split under_way in
+at_data arrived n left line lines stands start later t bytes arrivals split is under_way =
+    let on : IsUnderWay arrived n (line ∷ lines) stands start later = subst (λ left. IsUnderWay arrived n left stands start later) split under_way in
     let went = bind_ok (after_line n on.before line) (after_lines (n + 1) lines) arrived on.rest in
     let took = data_taken n on.before went.0 t bytes line is went.1 in
     let fits = accepted_piece (count_of on.before.items) (latest on.before.items) (length bytes) t (has_final on.before.items) took.0 in
     let rest = lines_grow (n + 1) lines went.0 arrived went.2 in
-    let stop : start ≡ count_of on.before.items = starts ∙ ap (λ w. w.stop) on.window_is in
+    let stop : start ≡ count_of on.before.items = on.position_is in
     let chunk : Item = chunk_at start (length bytes) t in
     let same_chunk : next_chunk on.before.items (length bytes) t ≡ chunk = ap (λ m. chunk_at m (length bytes) t) (sym stop) in
     let items : went.0.items ≡ on.before.items ++ chunk ∷ [] = ap (λ a. a.items) took.1 ∙ ap (λ c. on.before.items ++ c ∷ []) same_chunk in
@@ -106,32 +105,31 @@ at_data arrived n left line lines stands window later start t bytes arrivals sta
             (subst (λ xs. Any (LiesInChunk part) (arrival_list xs)) (sym whole) lies) before;
       };
       ready = subst (λ m. stands m (chunk ∷ rest.later)) (sym stop) (subst (stands (count_of on.before.items)) splits on.ready);
-      then = λ after left_window ready window_after. record {
+      then = λ after ready. record {
         before = went.0;
         rest = went.2;
         items = rest.items;
         counted =
             let sizes : length went.0.bytes ≡ length on.before.bytes + length bytes = ap (λ a. length a.bytes) took.1 ∙ length-append on.before.bytes bytes in
             omega (arith, counts, sizes, on.counted, stop);
-        window_is = window_after ∙ ap (λ m. record { held = []; room = 1; stop = m }) (sym counts);
+        position_is = sym counts;
         ready = subst (λ m. after m rest.later) (sym counts) ready;
       };
     }
 
 -- what a last line finds, and what it leaves
-pub record IsAtLast (arrived : Arrived) (n : ℕ) (lines : List (List ℕ)) (stands : ℕ → List Item → Type 0) (window : Pieces) (later : List Item) (t : ℕ) : Type 1
+pub record IsAtLast (arrived : Arrived) (n : ℕ) (lines : List (List ℕ)) (stands : ℕ → List Item → Type 0) (position : ℕ) (later : List Item) (t : ℕ) : Type 1
   where
     pub others : List Item
-    pub position : ℕ
     pub is : later ≡ Closed t ∷ others
     pub ready : stands position (Closed t ∷ others)
-    pub then : (after : ℕ → List Item → Type 0) → after position others → IsUnderWay arrived (n + 1) lines after window others
+    pub then : (after : ℕ → List Item → Type 0) → after position others → IsUnderWay arrived (n + 1) lines after position others
 
-pub at_last : (arrived : Arrived) (n : ℕ) (left : List (List ℕ)) (line : List ℕ) (lines : List (List ℕ)) (stands : ℕ → List Item → Type 0) (window : Pieces)
+pub at_last : (arrived : Arrived) (n : ℕ) (left : List (List ℕ)) (line : List ℕ) (lines : List (List ℕ)) (stands : ℕ → List Item → Type 0) (position : ℕ)
     (later : List Item) (t : ℕ) → left ≡ line ∷ lines
-    → line_of line ≡ Some (end t) → IsUnderWay arrived n left stands window later → IsAtLast arrived n lines stands window later t
-at_last arrived n left line lines stands window later t split is under_way =
-    let on : IsUnderWay arrived n (line ∷ lines) stands window later = subst (λ left. IsUnderWay arrived n left stands window later) split under_way in
+    → line_of line ≡ Some (end t) → IsUnderWay arrived n left stands position later → IsAtLast arrived n lines stands position later t
+at_last arrived n left line lines stands position later t split is under_way =
+    let on : IsUnderWay arrived n (line ∷ lines) stands position later = subst (λ left. IsUnderWay arrived n left stands position later) split under_way in
     let went = bind_ok (after_line n on.before line) (after_lines (n + 1) lines) arrived on.rest in
     let took = end_taken n on.before went.0 t line is went.1 in
     let rest = lines_grow (n + 1) lines went.0 arrived went.2 in
@@ -142,39 +140,38 @@ at_last arrived n left line lines stands window later t split is under_way =
     let counts : count_of went.0.items ≡ count_of on.before.items = ap count_of items ∙ arrived-append on.before.items (Closed t ∷ []) ∙ omega arith in
     record {
       others = rest.later;
-      position = count_of on.before.items;
       is = splits;
-      ready = subst (stands (count_of on.before.items)) splits on.ready;
+      ready = subst (λ m. stands m (Closed t ∷ rest.later)) (sym on.position_is) (subst (stands (count_of on.before.items)) splits on.ready);
       then = λ after ready. record {
         before = went.0;
         rest = went.2;
         items = rest.items;
         counted = ap (λ a. length a.bytes) took.1 ∙ on.counted ∙ sym counts;
-        window_is = on.window_is ∙ ap (λ m. record { held = []; room = 1; stop = m }) (sym counts);
-        ready = subst (λ m. after m rest.later) (sym counts) ready;
+        position_is = on.position_is ∙ sym counts;
+        ready = subst (λ m. after m rest.later) (on.position_is ∙ sym counts) ready;
       };
     }
 
 -- the digits of a data line are pairs
-pub pairs_there : (arrived : Arrived) (n : ℕ) (left : List (List ℕ)) (line : List ℕ) (lines : List (List ℕ)) (stands : ℕ → List Item → Type 0) (window : Pieces)
+pub pairs_there : (arrived : Arrived) (n : ℕ) (left : List (List ℕ)) (line : List ℕ) (lines : List (List ℕ)) (stands : ℕ → List Item → Type 0) (position : ℕ)
     (later : List Item) (t : ℕ) (digits : List ℕ)
     → left ≡ line ∷ lines → line_of line ≡ option_map (arrival t) (result_ok (decode_of digits)) → 0 < length line
-    → IsUnderWay arrived n left stands window later → IsOk (decode_of digits)
-pairs_there arrived n left line lines stands window later t digits split says some under_way =
-    let on : IsUnderWay arrived n (line ∷ lines) stands window later = subst (λ left. IsUnderWay arrived n left stands window later) split under_way in
+    → IsUnderWay arrived n left stands position later → IsOk (decode_of digits)
+pairs_there arrived n left line lines stands position later t digits split says some under_way =
+    let on : IsUnderWay arrived n (line ∷ lines) stands position later = subst (λ left. IsUnderWay arrived n left stands position later) split under_way in
     let went = bind_ok (after_line n on.before line) (after_lines (n + 1) lines) arrived on.rest in
     pairs_taken n on.before went.0 t digits line says some went.1
 
 -- nothing is left behind the last line
-pub none_left : (arrived : Arrived) (n : ℕ) (left : List (List ℕ)) (stands : ℕ → List Item → Type 0) (window : Pieces) (later : List Item) → left ≡ []
-    → IsUnderWay arrived n left stands window later → later ≡ []
-none_left arrived n left stands window later empty on =
+pub none_left : (arrived : Arrived) (n : ℕ) (left : List (List ℕ)) (stands : ℕ → List Item → Type 0) (position : ℕ) (later : List Item) → left ≡ []
+    → IsUnderWay arrived n left stands position later → later ≡ []
+none_left arrived n left stands position later empty on =
     let rest : after_lines n [] on.before ≡ Ok arrived = subst (λ lines. after_lines n lines on.before ≡ Ok arrived) empty on.rest in
     let same : on.before ≡ arrived = cc in
     cancel on.before.items later [] (on.items ∙ sym (ap (λ a. a.items) same) ∙ sym (append-nil on.before.items))
 
 -- and there the source stands
-pub behind_all : (arrived : Arrived) (n : ℕ) (left : List (List ℕ)) (stands : ℕ → List Item → Type 0) (window : Pieces) (later : List Item) → later ≡ []
-    → IsUnderWay arrived n left stands window later
-    → (position : ℕ) × stands position []
-behind_all arrived n left stands window later none on = (count_of on.before.items, subst (stands (count_of on.before.items)) none on.ready)
+pub behind_all : (arrived : Arrived) (n : ℕ) (left : List (List ℕ)) (stands : ℕ → List Item → Type 0) (position : ℕ) (later : List Item) → later ≡ []
+    → IsUnderWay arrived n left stands position later
+    → (reached : ℕ) × stands reached []
+behind_all arrived n left stands position later none on = (count_of on.before.items, subst (stands (count_of on.before.items)) none on.ready)

@@ -1,5 +1,5 @@
 //! The dry run: arrivals in, the result of a chain out, with no clock and no socket.
-ghost use Rattle.std.specs.Prelude.{◌≡◌, ◌≢◌, ◌+◌, [], false, vec_capacity, OnOk, IfErr, Err};
+ghost use Rattle.std.specs.Prelude.{◌≡◌, ◌≢◌, ◌+◌, false, vec_capacity, OnOk, IfErr, Err};
 ghost use Rattle.std.specs.Result.{ForOk};
 ghost use Rattle.tox_runs.specs.runs.DryRun.{StopsDry, WritesEveryRest, WritesResult, flow_text};
 ghost use Rattle.tox_runs.specs.runs.Reading.{TakesAtMost};
@@ -9,7 +9,7 @@ ghost use Rattle.tox_text.specs.Writing.{Writes};
 ghost use Rattle.tox_text.specs.declared.fault.DryFault.TheVariants.{ReadFault, WriteFault};
 
 use crate::runs::checked_input::{CheckedInput, read_checked};
-use crate::runs::second_pass::{PieceRoom, write_text};
+use crate::runs::second_pass::write_text;
 use std::alloc::Global;
 use tox_compile::compile;
 use tox_defs::Chain;
@@ -46,8 +46,8 @@ pub fn dry_run<R: Source, W: Sink>(
     ensures reading { result ≢ Err ReadFault → R.failed reader.new ≡ false }
     ensures most { TakesAtMost (16_777_216 + 1) (R.remaining reader.old) (R.remaining reader.new) }
 {
-    let CheckedInput { text, room } = read_checked(alloc, reader)?;
-    if write_flow(writer, &text, room, chain, words).is_err() {
+    let CheckedInput { text, spare } = read_checked(alloc, reader)?;
+    if write_flow(writer, &text, spare, chain, words).is_err() {
         return Err(DryFault::WriteFault);
     }
     Ok(())
@@ -57,17 +57,16 @@ pub fn dry_run<R: Source, W: Sink>(
 fn write_flow<W: Sink>(
     writer: &mut W,
     text: &[u8],
-    room: PieceRoom,
+    spare: Vec<u8>,
     chain: &Chain,
     words: &Words,
 ) -> Result<(), EndFault>
     requires working { W.failed writer.old ≡ false }
-    requires empty { room.window ≡ record { held = []; room = 1; stop = 0 } }
-    requires checked { IsChecked text.now (vec_capacity room.spare) }
+    requires checked { IsChecked text.now (vec_capacity spare) }
     ensures { ForOk (arrivals_of text.now) (λ arrived.
         Writes result (W.written writer.old) (W.written writer.new) (W.failed writer.new)
         (flow_text chain.now words.now arrived)) }
 {
     let mut runner = Runner::new(compile(chain, words), words);
-    write_text(&mut runner, writer, text, room)
+    write_text(&mut runner, writer, text, spare)
 }

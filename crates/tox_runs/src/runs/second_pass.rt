@@ -11,43 +11,17 @@ ghost use Rattle.tox_text.specs.Writing.{Writes};
 ghost use Rattle.tox_runs.specs.runs.SecondPass.{IsAtPiece, IsAtStart, PrintsDownTo, chunk_of};
 
 use crate::runs::slice_source::SliceSource;
-use std::alloc::{AllocError, Global};
-use tox_lend::{Piece, Window};
+use tox_lend::Piece;
 use tox_text::{Event, Printer, decode_into, first_line, line_of, print_ending};
 use tox_time::{EndFault, Micros, Sink};
-
-/// Room for one piece at a time: a vector for its bytes, and a window that holds it.
-#[derive(Drop)]
-pub(crate) struct PieceRoom {
-    spare: Vec<u8>,
-    window: Window,
-}
-
-impl PieceRoom {
-    /// Room for a piece of at most so many bytes.
-    pub(crate) fn new(alloc: Global, longest: usize) -> Result<PieceRoom, AllocError>
-        ensures spare { IfOk result (λ room. vec_capacity room.spare ≡ longest) }
-        ensures window { IfOk result
-            (λ room. room.window ≡ record { held = []; room = 1; stop = 0 }) }
-    {
-        Ok(PieceRoom {
-            spare: Vec::with_capacity(alloc, longest)?,
-            window: Window::new(alloc, 1)?,
-        })
-    }
-}
 
 /// Prints what a piece gives. Its bytes are handed back for the next line.
 fn print_data<S: SliceSource, W: Sink>(
     source: &mut S,
-    window: &mut Window,
     printer: &mut Printer<'_, W>,
     piece: Piece,
 ) -> Result<Vec<u8>, EndFault>
     requires working { IsWorking W.Sink printer.old }
-    requires empty { (window.old.held ≡ []) × (window.old.room ≡ 1) }
-    requires starts { piece.start ≡ window.old.stop }
-    requires some { 0 < length piece.bytes }
     requires few { stop_of piece ≤ 2 ^ 40 }
     requires next { IsAtPiece (S.stands source.old) piece }
     ensures prints { (at : IsAtPiece (S.stands source.old) piece)
@@ -56,28 +30,20 @@ fn print_data<S: SliceSource, W: Sink>(
         (S.text_left source.new at.arrived (arrival_list at.later)) }
     ensures stands { OnOk result ((at : IsAtPiece (S.stands source.old) piece)
         → S.stands source.new at.arrived (stop_of piece) at.later) }
-    ensures window { OnOk result
-        (window.new ≡ record { held = []; room = 1; stop = stop_of piece }) }
     ensures room { IfOk result (λ spare. vec_capacity spare ≡ piece.room) }
 {
-    let start = piece.start;
-    window.add(piece);
-    let held = window.piece(start).unwrap();
-    source.print_piece(printer, held)?;
-    let printed = window.take_first().unwrap();
-    Ok(printed.bytes)
+    source.print_piece(printer, &piece)?;
+    Ok(piece.bytes)
 }
 
 /// Prints the lines of all pieces of a text without faults, by a vector that has room for the bytes of each line.
 fn print_lines<S: SliceSource, W: Sink>(
     source: &mut S,
-    window: &mut Window,
     printer: &mut Printer<'_, W>,
     text: &[u8],
     spare: Vec<u8>,
 ) -> Result<(), EndFault>
     requires working { IsWorking W.Sink printer.old }
-    requires empty { window.old ≡ record { held = []; room = 1; stop = 0 } }
     requires checked { IsChecked text.now (vec_capacity spare) }
     requires first { IsAtStart (S.stands source.old) text.now }
     ensures prints { ForOk (arrivals_of text.now) (λ arrived.
@@ -87,6 +53,7 @@ fn print_lines<S: SliceSource, W: Sink>(
         (λ arrived. (position : ℕ) × S.stands source.new arrived position [])) }
 {
     let mut bytes = spare;
+    let mut position = 0;
     let mut left = Some(text);
     while let Some(rest) = left {
         let (line, others) = first_line(rest);
@@ -98,11 +65,12 @@ fn print_lines<S: SliceSource, W: Sink>(
             Event::Data(digits) => {
                 decode_into(&mut bytes, digits);
                 let piece = Piece {
-                    start: window.stop(),
+                    start: position,
                     bytes,
                     instant: said.instant,
                 };
-                bytes = print_data(source, window, printer, piece)?;
+                position += piece.bytes.len() as u64;
+                bytes = print_data(source, printer, piece)?;
             }
             Event::Eof => source.end(said.instant),
         }
@@ -113,19 +81,17 @@ fn print_lines<S: SliceSource, W: Sink>(
 /// Prints the lines of all pieces, and then that of the ending.
 fn print_text<S: SliceSource, W: Sink>(
     source: &mut S,
-    window: &mut Window,
     printer: &mut Printer<'_, W>,
     text: &[u8],
     spare: Vec<u8>,
 ) -> Result<(), EndFault>
     requires working { IsWorking W.Sink printer.old }
-    requires empty { window.old ≡ record { held = []; room = 1; stop = 0 } }
     requires checked { IsChecked text.now (vec_capacity spare) }
     requires first { IsAtStart (S.stands source.old) text.now }
     ensures { ForOk (arrivals_of text.now) (λ arrived.
         Prints W.Sink result printer.old printer.new (S.text_left source.old arrived (arrival_list arrived.items))) }
 {
-    print_lines(source, window, printer, text, spare)?;
+    print_lines(source, printer, text, spare)?;
     let ending = source.last();
     print_ending(printer, &ending)
 }
@@ -135,18 +101,16 @@ pub(crate) fn write_text<S: SliceSource, W: Sink>(
     source: &mut S,
     writer: &mut W,
     text: &[u8],
-    room: PieceRoom,
+    spare: Vec<u8>,
 ) -> Result<(), EndFault>
     requires working { W.failed writer.old ≡ false }
-    requires empty { room.window ≡ record { held = []; room = 1; stop = 0 } }
-    requires checked { IsChecked text.now (vec_capacity room.spare) }
+    requires checked { IsChecked text.now (vec_capacity spare) }
     requires first { IsAtStart (S.stands source.old) text.now }
     ensures { ForOk (arrivals_of text.now) (λ arrived.
         Writes result (W.written writer.old) (W.written writer.new) (W.failed writer.new)
         (S.text_left source.old arrived (arrival_list arrived.items))) }
 {
-    let PieceRoom { spare, mut window } = room;
     let mut printer = Printer::new(writer);
-    print_text(source, &mut window, &mut printer, text, spare)?;
+    print_text(source, &mut printer, text, spare)?;
     printer.finish()
 }

@@ -1,5 +1,5 @@
 //! A run of stages in real threads: arrivals in, the result of a chain out.
-ghost use Rattle.std.specs.Prelude.{◌≡◌, ◌≢◌, ◌+◌, ◌≤◌, [], false, vec_capacity, OnOk, IfErr, Err};
+ghost use Rattle.std.specs.Prelude.{◌≡◌, ◌≢◌, ◌+◌, ◌≤◌, false, vec_capacity, OnOk, IfErr, Err};
 ghost use Rattle.std.specs.Result.{ForOk};
 ghost use Rattle.tox_time.specs.streams.Arrivals.{arrival_list};
 ghost use Rattle.tox_time.specs.streams.Neighbours.{AreNeighbours};
@@ -17,7 +17,7 @@ ghost use Rattle.tox_runs.specs.declared.runs.fault.StagesFault.TheVariants.{Dry
 use crate::runs::checked_input::{CheckedInput, read_checked};
 use crate::runs::fault::StagesFault;
 use crate::runs::outcome_slices::OutcomeSlices;
-use crate::runs::second_pass::{PieceRoom, write_text};
+use crate::runs::second_pass::write_text;
 use std::alloc::Global;
 use std::sync::Wait;
 use std::thread::Threads;
@@ -58,7 +58,7 @@ pub fn stages_run<T: Threads + Wait + Sync, R: Source, W: Sink, G: Gate>(
     ensures reading { result ≢ Err (Dry ReadFault) → R.failed reader.new ≡ false }
     ensures most { TakesAtMost (16_777_216 + 1) (R.remaining reader.old) (R.remaining reader.new) }
 {
-    let CheckedInput { text, room } = match read_checked(alloc, reader) {
+    let CheckedInput { text, spare } = match read_checked(alloc, reader) {
         Ok(input) => input,
         Err(fault) => return Err(StagesFault::Dry(fault)),
     };
@@ -69,7 +69,7 @@ pub fn stages_run<T: Threads + Wait + Sync, R: Source, W: Sink, G: Gate>(
         Ok(outcome) => outcome,
         Err(fault) => return Err(StagesFault::Stages(fault)),
     };
-    if write_outcome(writer, &text, room, &outcome).is_err() {
+    if write_outcome(writer, &text, spare, &outcome).is_err() {
         return Err(StagesFault::Dry(DryFault::WriteFault));
     }
     Ok(())
@@ -79,17 +79,16 @@ pub fn stages_run<T: Threads + Wait + Sync, R: Source, W: Sink, G: Gate>(
 fn write_outcome<W: Sink>(
     writer: &mut W,
     text: &[u8],
-    room: PieceRoom,
+    spare: Vec<u8>,
     outcome: &Outcome,
 ) -> Result<(), EndFault>
     requires working { W.failed writer.old ≡ false }
-    requires empty { room.window ≡ record { held = []; room = 1; stop = 0 } }
-    requires checked { IsChecked text.now (vec_capacity room.spare) }
+    requires checked { IsChecked text.now (vec_capacity spare) }
     requires neighbours { ForOk (arrivals_of text.now)
         (λ arrived. AreNeighbours (arrival_list arrived.items) 0 outcome.now.slices) }
     ensures { ForOk (arrivals_of text.now) (λ arrived.
         Writes result (W.written writer.old) (W.written writer.new) (W.failed writer.new)
         (result_text arrived (slices_table outcome.now.slices) outcome.now.ending)) }
 {
-    write_text(&mut OutcomeSlices::new(outcome), writer, text, room)
+    write_text(&mut OutcomeSlices::new(outcome), writer, text, spare)
 }

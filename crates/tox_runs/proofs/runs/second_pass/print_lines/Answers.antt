@@ -1,5 +1,5 @@
 -- One line more: its piece is printed, or the source's end is reported.
-use Rattle.std.proofs.Common.{◌≡◌, ◌+◌, ◌<◌, ◌∷◌, ℕ, [], Ok, Some, length, option_map, arith, rules, sym, ◌∙◌, ap, subst, vec_capacity}
+use Rattle.std.proofs.Common.{◌≡◌, ◌+◌, ◌<◌, ◌∷◌, ℕ, [], Ok, Some, length, option_map, arith, rules, sym, ◌∙◌, ap, refl, subst, vec_capacity}
 use Rattle.std.specs.Result.{result_ok}
 use Rattle.tox_time.specs.declared.streams.item.Item.TheVariants.{Quiet}
 use Rattle.tox_time.specs.streams.Arrivals.{arrival_list}
@@ -21,8 +21,8 @@ loop-left-init g c =
       arrivals = checked.arrivals;
       number = 1;
       later = checked.arrived.items;
-      under_way = IsUnderWay-first checked.arrived _ (g.S.SliceSource.stands c.args.source.now checked.arrived) c.args.window.now checked.spelled
-          (c.requires.first checked.arrived checked.spelled) c.requires.empty;
+      under_way = IsUnderWay-first checked.arrived _ (g.S.SliceSource.stands c.args.source.now checked.arrived) 0 checked.spelled
+          (c.requires.first checked.arrived checked.spelled) refl;
       short = checked.short;
       printed = PrintsDownTo-none c.requires.working;
     }
@@ -48,7 +48,7 @@ print_data-requires-clause-next g c =
     let t = c.in-Some-line_of.said.instant in
     let is = sym c.in-Some-line_of.ensures.says ∙ ap (event_seen t) c.in-Data.is
     ∙ ap (λ r. option_map (arrival t) (result_ok r)) c.decode_into.ensures.decoded in
-    let found = at_data on.arrived on.number _ _ _ _ _ on.later c.stop.result t c.decode_into.new.bytes.items on.arrivals c.stop.ensures.value split is
+    let found = at_data on.arrived on.number _ _ _ _ _ on.later t c.decode_into.new.bytes.items on.arrivals split is
     on.under_way in
     record { arrived = on.arrived; later = found.others; of = found.of _; before = found.ready }
 
@@ -59,7 +59,7 @@ returns-in_err-bytes-in-Data-clause-prints g c =
     let t = c.in-Some-line_of.said.instant in
     let is = sym c.in-Some-line_of.ensures.says ∙ ap (event_seen t) c.in-Data.is
     ∙ ap (λ r. option_map (arrival t) (result_ok r)) c.decode_into.ensures.decoded in
-    let found = at_data on.arrived on.number _ _ _ _ _ on.later c.stop.result t c.decode_into.new.bytes.items on.arrivals c.stop.ensures.value split is
+    let found = at_data on.arrived on.number _ _ _ _ _ on.later t c.decode_into.new.bytes.items on.arrivals split is
     on.under_way in
     let before = subst (λ later. PrintsDownTo g.W.Sink (Ok (tt {0})) c.args.printer.now c.loop-left.printer
     (g.S.SliceSource.text_left c.args.source.now on.arrived (arrival_list on.arrived.items))
@@ -79,23 +79,25 @@ loop-left-preserved-in-Data g c =
     let t = c.in-Some-line_of.said.instant in
     let is = sym c.in-Some-line_of.ensures.says ∙ ap (event_seen t) c.in-Data.is
     ∙ ap (λ r. option_map (arrival t) (result_ok r)) c.decode_into.ensures.decoded in
-    let found = at_data on.arrived on.number _ _ _ _ _ on.later c.stop.result t c.decode_into.new.bytes.items on.arrivals c.stop.ensures.value split is
+    let found = at_data on.arrived on.number _ _ _ _ _ on.later t c.decode_into.new.bytes.items on.arrivals split is
     on.under_way in
     let before = subst (λ later. PrintsDownTo g.W.Sink (Ok (tt {0})) c.args.printer.now c.loop-left.printer
     (g.S.SliceSource.text_left c.args.source.now on.arrived (arrival_list on.arrived.items))
     (g.S.SliceSource.text_left c.loop-left.source on.arrived (arrival_list later))) found.is on.printed in
-    let piece : Run = record { start = c.stop.result; bytes = c.decode_into.new.bytes.items; instant = t; room = vec_capacity c.decode_into.new.bytes } in
+    let piece : Run =
+    record { start = c.loop-left.position; bytes = c.decode_into.new.bytes.items; instant = t; room = vec_capacity c.decode_into.new.bytes } in
     let at : IsAtPiece (g.S.SliceSource.stands c.loop-left.source) piece =
     record { arrived = on.arrived; later = found.others; of = found.of piece.room; before = found.ready } in
     let done = c.in_ok-bytes-in-Data.ensures in
     let printed = done.prints at in
+    let sized : c.len.result ≡ length c.decode_into.new.bytes.items = omega arith in
     record {
       arrived = on.arrived;
       spelled = on.spelled;
       arrivals = on.arrivals;
       number = on.number + 1;
       later = found.others;
-      under_way = found.then (g.S.SliceSource.stands c.print_data.new.source on.arrived) c.print_data.new.window (done.stands at) done.window;
+      under_way = rw sized (found.then (g.S.SliceSource.stands c.print_data.new.source on.arrived) (done.stands at));
       short = AreShort-longer (vec_capacity c.loop-left.bytes) _ _ (omega (arith, c.decode_into.ensures.kept, done.room)) short.1;
       printed = PrintsDownTo-passed (PrintsDownTo-both before printed);
     }
@@ -107,7 +109,7 @@ end-requires g c =
     let is : line_of c.first_line.result.0.now ≡ Some (end t) = sym c.in-Some-line_of.ensures.says ∙ ap (event_seen t) c.in-Eof.is in
     let last = at_last on.arrived on.number _ _ _ _ _ on.later t (line_next _ _ _ c.first_line.result.1 c.in-Some.is c.first_line.ensures.lines) is on.under_way
     in
-    record { next = record { arrived = on.arrived; position = last.position; later = last.others; before = last.ready } }
+    record { next = record { arrived = on.arrived; position = c.loop-left.position; later = last.others; before = last.ready } }
 
 pub loop-left-preserved : goal.loop-left-preserved
 loop-left-preserved g c =
@@ -118,7 +120,7 @@ loop-left-preserved g c =
     let is : line_of c.first_line.result.0.now ≡ Some (end t) = sym c.in-Some-line_of.ensures.says ∙ ap (event_seen t) c.in-Eof.is in
     let last = at_last on.arrived on.number _ _ _ _ _ on.later t split is on.under_way in
     let at : IsAtSourceEnd (g.S.SliceSource.stands c.loop-left.source) t =
-    record { arrived = on.arrived; position = last.position; later = last.others; before = last.ready } in
+    record { arrived = on.arrived; position = c.loop-left.position; later = last.others; before = last.ready } in
     let before = subst (λ later. PrintsDownTo g.W.Sink (Ok (tt {0})) c.args.printer.now c.loop-left.printer
     (g.S.SliceSource.text_left c.args.source.now on.arrived (arrival_list on.arrived.items))
     (g.S.SliceSource.text_left c.loop-left.source on.arrived (arrival_list later))) last.is on.printed in

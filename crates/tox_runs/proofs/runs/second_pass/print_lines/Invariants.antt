@@ -16,7 +16,7 @@ invariant-loop-left g l = record {
   arrivals : AreArrivals arrived;
   number : ℕ;
   later : List Item;
-  under_way : IsUnderWay arrived number (lines_left (option_map (λ rest. rest.now) l.left)) (g.S.SliceSource.stands l.source arrived) l.window later;
+  under_way : IsUnderWay arrived number (lines_left (option_map (λ rest. rest.now) l.left)) (g.S.SliceSource.stands l.source arrived) l.position later;
   short : AreShort (vec_capacity l.bytes) (lines_left (option_map (λ rest. rest.now) l.left));
   printed : PrintsDownTo g.W.Sink (Ok (tt {0})) l.fn.printer l.printer
       (g.S.SliceSource.text_left l.fn.source arrived (arrival_list arrived.items)) (g.S.SliceSource.text_left l.source arrived (arrival_list later));
