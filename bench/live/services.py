@@ -54,8 +54,8 @@ def iperf(streams, *options):
     return rate
 
 
-def compare(folder, port, what, rate, unit):
-    """One load through each proxy."""
+def compare(folder, port, what, rate, unit, aim):
+    """One load through each proxy. Workers are to have so much of haproxy's rate."""
     rivals = contenders(folder, port)
     best = {proxy.name: 0.0 for proxy in rivals}
     for _ in range(TURNS):
@@ -64,7 +64,9 @@ def compare(folder, port, what, rate, unit):
     for proxy in rivals:
         proxy.stop()
     ratios = ", ".join(f"{name} {value:,.1f} ({value / best['haproxy']:.2f})" for name, value in best.items())
-    print(f"{what}, {unit}: {ratios}", flush=True)
+    reached = best["workers"] / best["haproxy"]
+    verdict = "reached" if reached >= aim else "short"
+    print(f"{what}, {unit}: {ratios}; workers are to have {aim:.2f}: {verdict}", flush=True)
 
 
 def nginx(folder, host="127.0.0.1", most=None):
@@ -90,7 +92,7 @@ def nginx(folder, host="127.0.0.1", most=None):
 def over_http(folder):
     server, port = nginx(folder)
     for path, links in (("small", 16), ("small", 400), ("large", 16)):
-        compare(folder, port, f"wrk, {path} answers, {links} links", wrk(path, links), "requests/s")
+        compare(folder, port, f"wrk, {path} answers, {links} links", wrk(path, links), "requests/s", 1.1)
     server.terminate()
     server.wait()
 
@@ -101,7 +103,7 @@ def over_redis(folder):
     server = subprocess.Popen(command, stdout=subprocess.DEVNULL)
     proxies.wait_for(port)
     for pipeline in (1, 16):
-        compare(folder, port, f"redis-benchmark GET, 50 links, pipeline {pipeline}", redis(50, pipeline), "requests/s")
+        compare(folder, port, f"redis-benchmark GET, 50 links, pipeline {pipeline}", redis(50, pipeline), "requests/s", 1.1)
     server.terminate()
     server.wait()
 
@@ -110,8 +112,8 @@ def over_iperf(folder):
     port = proxies.free_port()
     server = subprocess.Popen(["iperf3", "-s", "-p", str(port)], stdout=subprocess.DEVNULL, stderr=subprocess.DEVNULL)
     time.sleep(0.5)
-    for what, load in (("up", iperf(1)), ("down", iperf(1, "-R")), ("8 streams up", iperf(8))):
-        compare(folder, port, f"iperf3, {what}", load, "Gbit/s")
+    for what, load, aim in (("up", iperf(1), 1.3), ("down", iperf(1, "-R"), 1.3), ("8 streams up", iperf(8), 1.1)):
+        compare(folder, port, f"iperf3, {what}", load, "Gbit/s", aim)
     server.terminate()
     server.wait()
 
@@ -142,7 +144,7 @@ def pgbench(links):
 
 def over_postgres(folder):
     server, port = start_postgres(folder)
-    compare(folder, port, "pgbench -S, 32 links", pgbench(32), "transactions/s")
+    compare(folder, port, "pgbench -S, 32 links", pgbench(32), "transactions/s", 1.1)
     server.terminate()
     server.wait()
 
