@@ -2,6 +2,7 @@
 #![tactic(auto)]
 
 mod axis;
+mod bytes_by_column;
 mod curve;
 mod draw;
 mod form;
