@@ -13,8 +13,8 @@ use crate::steps::read_size::{READ_SIZE, SCRATCH_SIZE};
 use crate::steps::room::pieces_to_take;
 use std::alloc::{AllocError, Global};
 
-/// Reads once, as much as there is room for, up to 65,536 bytes. What came is stamped with a reading that the clock tells after the read. False where the source would wait.
-/// Without memory for the bytes, or for a note, nothing more is read.
+/// Reads once, as much as there is room for, up to 65,536 bytes. What came is stamped with a reading that the clock tells after the
+/// read. False where the source would wait. Without memory for the bytes, or for a note, nothing more is read.
 pub(crate) fn read_once<C: Clock, N: Notes, S: PollSource>(
     link: &mut PolledLink,
     alloc: Global,

@@ -27,7 +27,8 @@ const STEPS: usize = 32;
 /// no further once it has taken and written 81,920 bytes in all, or its core gave 4,096 cuts.
 ///
 /// Slices that are being written are written on, and nothing else happens while they wait. Else the core is asked at the clock's
-/// reading. Where the core waits, input is read if there is room for it.
+/// reading. Where the core waits, input is read if there is room for it: up to 65,536 bytes by one call, which are kept in pieces of
+/// at most 16,384.
 ///
 /// # Errors
 ///
