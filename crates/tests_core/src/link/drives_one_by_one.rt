@@ -125,3 +125,44 @@ const LARGE_READ: &DriveCase = &DriveCase {
 fn a_large_read_is_kept_in_pieces(rt: HostRuntime) {
     follow(&rt, LARGE_READ);
 }
+
+const WHOLE_PIECES: &DriveCase = &DriveCase {
+    toxics: "latency:latency=1",
+    gives: 65_536,
+    most_read: 65_536,
+    due: None,
+    kept: Kept::Nothing,
+    steps: &[
+        Step::Drive(Ok(Some(1_010))),
+        Step::Clock(1_010),
+        Step::Drive(Ok(None)),
+        Step::Together(4),
+    ],
+};
+
+/// The four pieces of one read leave by one call.
+#[test]
+fn whole_pieces_are_written_together(rt: HostRuntime) {
+    follow(&rt, WHOLE_PIECES);
+}
+
+const CUTS: &DriveCase = &DriveCase {
+    toxics: "slicer:average_size=4096,size_variation=0,delay=10",
+    gives: 65_536,
+    most_read: 65_536,
+    due: None,
+    kept: Kept::Nothing,
+    steps: &[
+        Step::Drive(Ok(Some(20))),
+        Step::Clock(1_000),
+        Step::DriveOn,
+        Step::Drive(Ok(None)),
+        Step::Together(1),
+    ],
+};
+
+/// Each cut of a slicer has a call of its own, however late it is.
+#[test]
+fn cuts_are_written_one_by_one(rt: HostRuntime) {
+    follow(&rt, CUTS);
+}

@@ -45,12 +45,14 @@ impl PollSource for TickingSource {
     }
 }
 
-/// A sink that takes all, or would wait until it is due and then fails.
+/// A sink that takes the first buffer of a call, or would wait until it is due and then fails.
 #[derive(Drop)]
 struct DueSink {
     micros: Arc<AtomicU64>,
     due: Option<Micros>,
     failed: bool,
+    /// The most nonempty buffers of one call.
+    together: usize,
 }
 
 impl PollSink for DueSink {
@@ -63,6 +65,7 @@ impl PollSink for DueSink {
     ghost due = { λ s. s.due };
 
     fn poll_write(&mut self, buffers: &[IoSlice<'_>]) -> Result<Option<usize>, EndFault> {
+        self.together = self.together.max(nonempty(buffers));
         let Some(due) = self.due else {
             return Ok(Some(front_of(buffers).len()));
         };
@@ -76,6 +79,11 @@ impl PollSink for DueSink {
     fn due(&self) -> Option<Micros> {
         self.due
     }
+}
+
+/// How many buffers have bytes.
+fn nonempty(buffers: &[IoSlice<'_>]) -> usize {
+    buffers.iter().filter(|buffer| !buffer.is_empty()).count()
 }
 
 /// A direction under these toxics, at which nothing has arrived.
@@ -113,6 +121,8 @@ pub enum Step {
     Gives(u64),
     /// So many bytes of the source are left.
     Left(u64),
+    /// One call so far wrote so many nonempty buffers, and none wrote more.
+    Together(usize),
     /// All events that were noted.
     Events(&'static [Event]),
 }
@@ -155,6 +165,7 @@ impl DriveCase {
             micros: clock.share(rt),
             due: self.due.map(at),
             failed: false,
+            together: 0,
         }
     }
 }
@@ -190,6 +201,7 @@ impl DrivenLink {
             Step::Clock(micros) => self.clock.micros.store(*micros, Ordering::SeqCst),
             Step::Gives(count) => self.source.left = *count,
             Step::Left(count) => assert_equal_at(rt, &self.source.left, count, nth),
+            Step::Together(count) => assert_equal_at(rt, &self.sink.together, count, nth),
             Step::Events(events) => {
                 assert_equal_at(rt, &self.notes.noted.events, &events_of(rt, events), nth);
             }

@@ -55,3 +55,18 @@ const ONE_READ: &DriveCase = &DriveCase {
 fn a_plain_direction_holds_one_read(rt: HostRuntime) {
     follow(&rt, ONE_READ);
 }
+
+const ONE_CALL: &DriveCase = &DriveCase {
+    toxics: "",
+    gives: 65_536,
+    most_read: 65_536,
+    due: None,
+    kept: Kept::Nothing,
+    steps: &[Step::DriveOn, Step::Left(0), Step::Together(4)],
+};
+
+/// What one call reads is written by one call.
+#[test]
+fn a_plain_direction_writes_a_read_by_one_call(rt: HostRuntime) {
+    follow(&rt, ONE_CALL);
+}
