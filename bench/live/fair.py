@@ -1,6 +1,7 @@
 """How long one byte takes there and back while other links carry bulk."""
 import time
 
+import aims
 import proxies
 
 # How many links carry bulk, in both directions, and how often a byte is sent meanwhile.
@@ -40,6 +41,9 @@ def compare(load, folder, links):
         median, high = best[proxy.name]
         print(f"  {proxy.name:<18} {median:8.1f} {high:8.1f}   {median / beside[0]:5.2f} {high / beside[1]:5.2f}", flush=True)
         proxy.stop()
+    if links > 1:
+        median, high = (aims.of_time(ours / its, 1) for ours, its in zip(best["workers"], beside))
+        print(f"  the median: {median}; the percentile: {high}", flush=True)
     upstream.stop()
 
 

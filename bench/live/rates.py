@@ -1,4 +1,5 @@
 """How much each proxy carries, and how long one byte takes there and back."""
+import aims
 import proxies
 
 MEGABYTES = 500
@@ -16,18 +17,19 @@ def contenders(folder, port):
 
 
 def throughput(load, folder):
-    print(f"{MEGABYTES} MB each way at once, Gbit/s each way (best of three), and of haproxy's")
+    print(f"{MEGABYTES} MB each way at once, Gbit/s each way (best of five), and of haproxy's")
     size = MEGABYTES * 1_000_000
     upstream = load.upstream("exchange-server", size)
     rivals = contenders(folder, upstream.port)
     least = {proxy.name: float("inf") for proxy in rivals}
-    for _ in range(3):
+    for _ in range(5):
         for proxy in rivals:
             least[proxy.name] = min(least[proxy.name], float(load.run("exchange", proxy.port, size)[0]))
     for proxy in rivals:
         seconds = least[proxy.name]
         print(f"  {proxy.name:<18} {size * 8 / 1e9 / seconds:6.2f}   {least['haproxy'] / seconds:5.2f}", flush=True)
         proxy.stop()
+    print(f"  {aims.of_rate(least['haproxy'] / least['workers'], 1.2)}", flush=True)
     upstream.stop()
 
 
@@ -45,6 +47,7 @@ def round_trips(load, folder, count=20_000):
         median, high = best[proxy.name]
         print(f"  {proxy.name:<18} {median:6.1f} {high:6.1f}   {median / beside[0]:5.2f} {high / beside[1]:5.2f}", flush=True)
         proxy.stop()
+    print(f"  {aims.of_time(best['workers'][0] / beside[0], 0.75)}", flush=True)
     upstream.stop()
 
 

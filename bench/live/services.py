@@ -1,4 +1,4 @@
-"""Loads by clients that people use, through each proxy. A figure is the best of three turns, in which the proxies take turns; behind it stands its ratio to haproxy's."""
+"""Loads by clients that people use, through each proxy. A figure is the best of five turns, in which the proxies take turns; behind it stands its ratio to haproxy's."""
 import glob
 import json
 import os
@@ -8,9 +8,10 @@ import subprocess
 import tempfile
 import time
 
+import aims
 import proxies
 
-TURNS = 3
+TURNS = 5
 SECONDS = 3
 
 
@@ -40,9 +41,10 @@ def wrk(path, links, seconds=SECONDS):
     return rate
 
 
-def redis(links, pipeline):
+def redis(links, pipeline, requests=25_000):
+    """`requests`: how many, for each of a pipeline."""
     def rate(port):
-        said = said_by("redis-benchmark", "-p", str(port), "-c", str(links), "-P", str(pipeline), "-n", str(100_000 * pipeline // 4), "-t", "get", "--csv")
+        said = said_by("redis-benchmark", "-p", str(port), "-c", str(links), "-P", str(pipeline), "-n", str(requests * pipeline), "-t", "get", "--csv")
         return float(said.strip().split("\n")[-1].split(",")[1].strip('"'))
     return rate
 
@@ -64,9 +66,7 @@ def compare(folder, port, what, rate, unit, aim):
     for proxy in rivals:
         proxy.stop()
     ratios = ", ".join(f"{name} {value:,.1f} ({value / best['haproxy']:.2f})" for name, value in best.items())
-    reached = best["workers"] / best["haproxy"]
-    verdict = "reached" if reached >= aim else "short"
-    print(f"{what}, {unit}: {ratios}; workers are to have {aim:.2f}: {verdict}", flush=True)
+    print(f"{what}, {unit}: {ratios}; {aims.of_rate(best['workers'] / best['haproxy'], aim)}", flush=True)
 
 
 def nginx(folder, host="127.0.0.1", most=None):
@@ -97,11 +97,16 @@ def over_http(folder):
     server.wait()
 
 
-def over_redis(folder):
+def start_redis(folder):
     port = proxies.free_port()
     command = ["redis-server", "--port", str(port), "--save", "", "--dir", folder]
     server = subprocess.Popen(command, stdout=subprocess.DEVNULL)
     proxies.wait_for(port)
+    return server, port
+
+
+def over_redis(folder):
+    server, port = start_redis(folder)
     for pipeline in (1, 16):
         compare(folder, port, f"redis-benchmark GET, 50 links, pipeline {pipeline}", redis(50, pipeline), "requests/s", 1.1)
     server.terminate()
