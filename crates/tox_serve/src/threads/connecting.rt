@@ -75,7 +75,7 @@ fn begin_connect<R: ServeRuntime>(
     unreachable!()
 }
 
-/// Whether a connect that has begun ends, well or not, before the time of the options is over and the run is stopping.
+/// Whether a connect that has begun ends, well or not, before `--connect-timeout` is over or the run is stopping.
 fn has_answered<R: ServeRuntime>(rt: &R, run: &ServeRun<'_>, stream: &TcpStream) -> bool {
     let mut left = run.options.connect_timeout.unwrap_or(u32::MAX);
     for _ in rt.forever() {

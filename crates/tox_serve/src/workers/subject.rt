@@ -18,11 +18,11 @@ pub(crate) enum Subject {
     Server(LinkKey),
     /// The listener of the proxy at this place.
     Listener(u32),
-    /// Another thread.
+    /// Another thread has woken the worker.
     Waker,
 }
 
-/// The token of a subject: the generation, the slot, and what of the slot.
+/// The token of a subject: a link's generation and slot, or a proxy's place, and in the last two bits the kind of subject.
 pub(crate) fn token_of(subject: Subject) -> Token
     ensures { HasToken subject → result.0 ≡ token_number subject }
 {

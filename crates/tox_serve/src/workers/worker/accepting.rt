@@ -29,7 +29,7 @@ pub(super) fn may_accept(proxies: &mut [Accepting], place: usize) {
     }
 }
 
-/// When a proxy is next asked for connections that had none for lack of descriptors.
+/// The earliest instant at which a proxy that rests after a lack of descriptors or memory is asked again. None if none rests.
 pub(super) fn next_accept(proxies: &[Accepting]) -> Option<u64> {
     let mut next = None;
     for state in proxies {
