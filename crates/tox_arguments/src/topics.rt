@@ -22,8 +22,8 @@ pub(crate) const HELP: CommandForm = CommandForm {
     }],
 };
 
-/// The task of `help`: a text, or `clap`'s own help, which is an error. Without a topic that is the
-/// program's, since `clap` answers the first `--help`.
+/// The task of `help`: a text, or `clap`'s own help, which is an error. `toxi help` alone prints the
+/// program's help.
 pub(crate) fn help_task<'a>(alloc: Global, given: &ArgMatches<'a>) -> Result<Task<'a>, Error> {
     let topic = given.get_str("topic").unwrap_or("--help");
     match text_of(topic) {
