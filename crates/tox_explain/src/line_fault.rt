@@ -6,7 +6,7 @@ use crate::text_place::add_line;
 use std::alloc::AllocError;
 use tox_time::HORIZON;
 
-/// How long a line is that is looked at.
+/// How many bytes of a line are looked at.
 const MAX_LINE: usize = 4_096;
 
 /// Adds the line, and what is wrong in it as far as its signs tell.
@@ -47,7 +47,7 @@ fn valid_front(bytes: &[u8]) -> &str {
     }
 }
 
-/// What is wrong in a line that is none of the arrivals.
+/// What is wrong in a malformed line of the arrivals text.
 fn trouble_in(line: &str) -> &'static str {
     if line.is_empty() {
         return "the line is empty";

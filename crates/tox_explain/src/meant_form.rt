@@ -1,4 +1,4 @@
-//! The short form that was meant by a text that is none.
+//! The short form that a malformed text was meant to be.
 use crate::toxic_value::meant_value;
 use crate::unknown_name::type_names;
 use std::alloc::{AllocError, Global};

@@ -14,7 +14,7 @@ pub struct NearName {
     pub nearest: &'static str,
 }
 
-/// What the type or the attribute of a toxic may have been meant to be, if the fault is that there is none of its name and one is near.
+/// Of a fault S3 or S4: the unknown type or attribute, and the nearest known one. None if none is near, or of another fault.
 pub fn near_name(
     alloc: Global,
     fault: &str,
