@@ -128,7 +128,7 @@ where
     }
 }
 
-/// The status of a command.
+/// Prints the fault of a command, if it failed. Returns its status.
 fn tell<F: Display + Drop>(rt: &impl Eprint, done: Result<(), F>) -> ExitCode {
     match done {
         Ok(()) => ExitCode::SUCCESS,

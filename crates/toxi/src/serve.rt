@@ -97,7 +97,7 @@ impl ServeJob {
     }
 }
 
-/// Options, kept, but for the address for probes.
+/// The options that the thread keeps: all but the address for probes, whose text it owns itself.
 fn kept(options: &ServeOptions<'_>) -> ServeOptions<'static> {
     ServeOptions {
         links: options.links,
@@ -128,7 +128,7 @@ fn owned(alloc: Global, text: &str) -> Result<String, InlineFault> {
     text.to_string(alloc).map_err(|_| InlineFault::OutOfMemory)
 }
 
-/// A text, kept where there is one.
+/// An owned copy of a text, if there is one.
 fn owned_where(alloc: Global, text: Option<&str>) -> Result<Option<String>, InlineFault> {
     match text {
         Some(text) => Ok(Some(owned(alloc, text)?)),

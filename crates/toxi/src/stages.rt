@@ -1,4 +1,4 @@
-//! `toxi stages`: as `toxi dry`, but by threads.
+//! `toxi stages`: as `toxi dry`, with one thread for each applied toxic.
 use crate::explaining::Explaining;
 use crate::fault::Fault;
 use crate::kept_input::KeptInput;
