@@ -5,7 +5,7 @@ ghost use Rattle.tox_serve.specs.declared.output.form.LineForm.TheVariants.{Word
 use crate::output::LineForm;
 use tox_log::LogLimits;
 
-/// Options of [`serve_with`](crate::serve_with). Without any, `serve` does as it always did.
+/// Options of [`serve_with`](crate::serve_with). Each default leaves the option out.
 #[derive(Clone, Copy, Debug, Default, PartialEq, Eq)]
 pub struct ServeOptions<'a> {
     /// After how many connections each proxy stops listening, 1 to 1,000,000. None: it goes on.

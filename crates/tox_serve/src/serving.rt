@@ -88,6 +88,12 @@ pub fn serve<
 /// Told to stop, it listens no more and resets each link. A stream that hadn't ended is broken. Once no link has ended for 750
 /// milliseconds the totals don't wait for those left, which then have no line. It still returns only once these have ended,
 /// and waits for a writer that doesn't return: [`Room`](crate::Room) is for writers that give up.
+///
+/// # Errors
+///
+/// [`ListenRefused`](ServeFault::ListenRefused) and [`ReadyRefused`](ServeFault::ReadyRefused): the address of an enabled proxy, or the
+/// one for probes, can't be listened at. [`SpawnRefused`](ServeFault::SpawnRefused): a thread, or a worker's poll, is refused.
+/// [`OutOfMemory`](ServeFault::OutOfMemory).
 pub fn serve_with<
     'a,
     R: Net<Listener = TcpListener, Stream = TcpStream>
