@@ -9,9 +9,9 @@ pub(crate) enum Mistake<'a> {
     Space,
     CapitalLetter,
     /// Attributes without a type.
-    NoType,
+    AttributesAlone,
     /// A time without a type.
-    NoName,
+    TimeAlone,
     /// A chance without a toxic.
     OnlyChance,
     /// Another sign stands where the colon belongs.
@@ -39,8 +39,12 @@ impl<'a> fmt::Display for Mistake<'a> {
             Mistake::Empty => f.write_str("it is empty"),
             Mistake::Space => f.write_str("a space stands in it"),
             Mistake::CapitalLetter => f.write_str("names have small letters"),
-            Mistake::NoType => f.write_str("a type and a colon are missing before the attributes"),
-            Mistake::NoName => f.write_str("a type and an attribute are missing before the value"),
+            Mistake::AttributesAlone => f.write_str(
+                "a type and a colon are missing before the attributes",
+            ),
+            Mistake::TimeAlone => f.write_str(
+                "a type and an attribute are missing before the value",
+            ),
             Mistake::OnlyChance => f.write_str(
                 "a chance is the toxicity of a toxic, in whole thousandths: latency:latency=100,toxicity=500",
             ),
@@ -104,11 +108,13 @@ pub(crate) fn mistake_in(text: &str) -> Option<Mistake<'_>> {
 fn mistake_without_colon(text: &str) -> Option<Mistake<'_>> {
     match text.split_once('=') {
         Some((TOXICITY, _)) => Some(Mistake::OnlyChance),
-        Some((key, _)) if is_name(key) => Some(Mistake::NoType),
+        Some((key, _)) if is_name(key) => Some(Mistake::AttributesAlone),
         Some(_) => Some(Mistake::NoColon),
         None if is_name(text) => None,
         None if text.ends_with('%') => Some(Mistake::OnlyChance),
-        None if text.starts_with(|letter: char| letter.is_ascii_digit()) => Some(Mistake::NoName),
+        None if text.starts_with(|letter: char| letter.is_ascii_digit()) => Some(
+            Mistake::TimeAlone,
+        ),
         None => Some(Mistake::TypeName(text)),
     }
 }

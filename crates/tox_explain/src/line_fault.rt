@@ -4,10 +4,12 @@ use crate::fault_line::FaultLine;
 use crate::inputs::Inputs;
 use crate::text_place::add_line;
 use std::alloc::AllocError;
-use tox_time::HORIZON;
+use tox_time::{HORIZON, parse_decimal};
 
 /// How many bytes of a line are looked at.
 const MAX_LINE: usize = 4_096;
+/// The most digits of an instant.
+const MAX_DIGITS: usize = 16;
 
 /// Adds the line, and what is wrong in it as far as its signs tell.
 pub(crate) fn explain_line(
@@ -78,8 +80,5 @@ fn trouble_in(line: &str) -> &'static str {
 
 /// Whether a text is an instant.
 fn is_instant(text: &str) -> bool {
-    match text.parse::<u64>() {
-        Ok(micros) => micros <= HORIZON,
-        Err(_) => false,
-    }
+    parse_decimal(text, MAX_DIGITS, HORIZON).is_some()
 }
