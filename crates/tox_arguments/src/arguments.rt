@@ -43,7 +43,7 @@ pub(crate) const SEED: Argument = Argument {
     ..OPTION
 };
 
-/// The longest time that connects may be given, in milliseconds.
+/// The longest time that a connect, or a wait for one, may be given, in milliseconds.
 pub(crate) const MAX_CONNECT_TIMEOUT: u64 = 600_000;
 
 /// An option with a number of connections.

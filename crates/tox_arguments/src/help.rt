@@ -290,7 +290,7 @@ A log is faithful if its toxics and random words mean just what it says of the b
 time. It is unfinished if it is so as far as it goes, but broke off or has no last line. The lateness is how long after its
 instant a write began, or the end came; ~ marks what may be up to 1 % too high. `late ..` is left out where nothing was timed.
 
-Status 1 if a log can't be judged or is unfaithful. docs/PROFILE.md describes the log.
+Status 1 if a log can't be judged or is unfaithful. docs/REPLAY.md describes the log.
 
 Example:
   find logs -name '*.log' | toxi replay -";
