@@ -12,7 +12,7 @@ from .errors import ToxiError
 
 # The wheel has it there.
 OWN = Path(__file__).parent / "bin" / "toxi"
-# A clone's ./toxi compiles itself first, in seconds.
+# A clone's ./toxi may compile the program first. In seconds.
 VERSION_LIMIT = 300
 
 
