@@ -8,7 +8,7 @@ from .checks import judge_findings
 from .commands import Answer
 from .errors import ToxiEnded, ToxiError, error_of
 from .lines import Address, Link, Total, printed
-from .places import Rules
+from .places import kept_rules
 from .ports import HeldPorts
 from .program import found_program, startable
 from .proxies import Proxies, enabled_by_name, enabled_names, listening_at, populate_text
@@ -41,7 +41,7 @@ class ToxiBase:
         start_timeout: float = START_LIMIT,
     ) -> None:
         self._populate = populate_text(proxies)
-        self._rules: Rules = rules if isinstance(rules, str) else list(rules)
+        self._rules = kept_rules(rules)
         self._seed = seed
         self._program = program
         self._directory = None if directory is None else Path(directory)
@@ -162,7 +162,7 @@ class ToxiBase:
 
     def _new_run(self, rules: Union[str, Iterable[Rule], None] = None, seed: Optional[int] = None) -> Run:
         """The next run with its files, where what isn't given is that of the present one."""
-        given: Rules = self._rules if rules is None else rules if isinstance(rules, str) else list(rules)
+        given = self._rules if rules is None else kept_rules(rules)
         program = found_program() if self._program is None else startable(os.fspath(self._program))
         if self._directory is None:
             self._own_directory = tempfile.TemporaryDirectory(prefix="toxi-")

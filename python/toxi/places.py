@@ -1,11 +1,24 @@
-"""Where in the rules something stands that the program names by numbers."""
+"""The rules as they are kept, and where in them something stands that the program names by numbers."""
 import re
-from typing import List, Sequence, Union
+from typing import Iterable, List, Sequence, Union
 
 from .rules import Rule
 
 # A script's text, or its rules.
 Rules = Union[str, Sequence[Rule]]
+
+
+def kept_rules(given: Union[str, Iterable[Rule]]) -> Rules:
+    """Rules as they are kept. Raises `TypeError` for what is neither a script's text nor some rules."""
+    if not isinstance(given, (str, Iterable)):
+        raise TypeError(f"rules are a list of Rule, or the text of a script, not {given!r}")
+    if isinstance(given, str):
+        return given
+    kept = list(given)
+    for rule in kept:
+        if not isinstance(rule, Rule):
+            raise TypeError(f"{rule!r} is no Rule: Rule('shop', [..])")
+    return kept
 
 
 def place_of(rules: Rules, rule: int, toxic: int) -> str:

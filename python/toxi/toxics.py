@@ -24,7 +24,7 @@ class Toxic:
     meets the toxic: a float of 0.0 to 1.0 in thousandths such as `0.25`, the same as a text, or whole thousandths, 0 to 1000;
     absent, every link meets it. The whole number 1 is refused by a ValueError, since it reads as both 1.0 and 0.001.
 
-    Raises `TypeError` for a value without its name.
+    Raises `TypeError` for a value without its name, and for a name that the toxic doesn't have.
     """
 
     type: ClassVar[str]
@@ -37,6 +37,10 @@ class Toxic:
     def __new__(cls, *values: Any, **named: Any) -> "Toxic":
         if values:
             raise TypeError(f"give the attributes of {cls.__name__} by keyword: {', '.join(map(repr, values))} has no name")
+        known = [field.name for field in fields(cls)]
+        for name in named:
+            if name not in known:
+                raise TypeError(f"{cls.__name__} has no {name!r}; it has {', '.join(known)}")
         return super().__new__(cls)
 
     def __post_init__(self) -> None:

@@ -22,6 +22,16 @@ class WrittenTests(unittest.TestCase):
         for values in ((100,), ("slow", "upstream", 100)):
             with self.assertRaisesRegex(TypeError, "by keyword: .*100 has no name"):
                 Latency(*values)
+        with self.assertRaisesRegex(TypeError, "Latency has no 'delay'; it has name, stream, toxicity, latency, jitter, until, from_$"):
+            Latency(delay=100)
+
+    def test_rules_are_a_list(self):
+        for wrong in (Rule("shop"), None, 3):
+            with self.assertRaisesRegex(TypeError, "^rules are a list of Rule, or the text of a script, not "):
+                Toxi(NOWHERE, wrong)
+        for wrong in ([Latency(latency=1)], ["shop"]):
+            with self.assertRaisesRegex(TypeError, r" is no Rule: Rule\('shop', \[\.\.\]\)$"):
+                Toxi(NOWHERE, wrong)
 
     def test_a_repr_shows_what_was_given(self):
         rule = Rule("shop", [Latency(latency=5, toxicity=0.25)], last=2)
