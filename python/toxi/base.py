@@ -134,8 +134,8 @@ class ToxiBase:
     def _found_link(self, proxy: str, number: int) -> Optional[Link]:
         return next((link for link in self.links(proxy) if link.number == number), None)
 
-    def _no_link(self, proxy: str, number: int, timeout: float, writes: bool) -> Exception:
-        what = f"link {number} of {proxy}; its lines are {self.lines()!r}"
+    def _no_link(self, proxy: str, number: int, timeout: float, writes: bool, hint: str = "") -> Exception:
+        what = f"link {number} of {proxy}; its lines are {self.lines()!r}{hint}"
         return TimeoutError(f"not within {timeout} s: {what}") if writes else ToxiEnded(f"toxi has ended without {what}")
 
     def _no_end(self, timeout: float) -> TimeoutError:

@@ -1,4 +1,5 @@
 """`Toxi`: a `toxi serve` process in front of the services of a test."""
+import asyncio
 import subprocess
 import time
 from pathlib import Path
@@ -90,12 +91,13 @@ class Toxi(ToxiBase):
     def wait_for_link(self, proxy: str, number: int, timeout: float = 5) -> Link:
         """Waits until the connection of this number, from 1, has ended, for at most `timeout` seconds.
 
+        It holds up its thread: on a loop of asyncio `await asyncio.to_thread(toxi.wait_for_link, ..)`.
         Raises `TimeoutError`, or `ToxiEnded` if it can't come, or `KeyError` for a proxy that isn't there.
         """
         self._running().wait_until(lambda: self._found_link(proxy, number) is not None, timeout)
         link = self._found_link(proxy, number)
         if link is None:
-            raise self._no_link(proxy, number, timeout, self._running().writes)
+            raise self._no_link(proxy, number, timeout, self._running().writes, _held_loop())
         return link
 
     def wait(self, timeout: float = 10) -> List[Total]:
@@ -159,6 +161,15 @@ class Toxi(ToxiBase):
             time.sleep(HOLD_PAUSE)
         process.stop()
         self._require_held()
+
+
+def _held_loop() -> str:
+    """What is to be said of a wait that held up the loop of asyncio that it was called on. Empty where there is none."""
+    try:
+        asyncio.get_running_loop()
+    except RuntimeError:
+        return ""
+    return "; the wait held up the loop of asyncio that it was called on, and each client there: await asyncio.to_thread(toxi.wait_for_link, ..)"
 
 
 def page_of(run: Run, path: Optional[StrPath] = None, since: Position = Position(), title: Optional[str] = None) -> Path:

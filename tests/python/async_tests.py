@@ -8,7 +8,7 @@ import tempfile
 import unittest
 
 from services import Pages, serving
-from toxi import AsyncToxi, LimitData, Proxy, ResetPeer, Rule, ToxiEnded, ToxiError, ToxiFault, ToxiWarning
+from toxi import AsyncToxi, LimitData, Proxy, ResetPeer, Rule, Toxi, ToxiEnded, ToxiError, ToxiFault, ToxiWarning
 
 PATIENCE = 20
 NOWHERE = {"shop": "127.0.0.1:1"}
@@ -57,6 +57,14 @@ class AsyncTests(unittest.IsolatedAsyncioTestCase):
         self.assertEqual([total.links for total in toxi.totals()], [1])
         with self.assertRaises(ToxiEnded):
             await toxi.wait_for_link("shop", 2, PATIENCE)
+
+    async def test_a_wait_of_toxi_says_that_it_holds_up_the_loop(self):
+        with Toxi(self.upstream) as toxi:
+            with self.assertRaisesRegex(TimeoutError, "await asyncio.to_thread"):
+                toxi.wait_for_link("shop", 1, 0.05)
+            with self.assertRaises(TimeoutError) as caught:
+                await asyncio.to_thread(toxi.wait_for_link, "shop", 1, 0.05)
+            self.assertNotIn("asyncio", str(caught.exception))
 
     async def test_restart_down_and_up(self):
         async with AsyncToxi(self.upstream, CUT) as toxi:
