@@ -2,6 +2,7 @@
 import os
 import shlex
 import shutil
+import sys
 from dataclasses import dataclass, field
 from pathlib import Path
 from typing import Dict, List, Optional, Union
@@ -18,6 +19,8 @@ from .served import page_of
 
 # With more proxies of a wider fixture in a test, as under Hypothesis, the last ones are shown: the failing example is run last.
 MAX_SHOWN = 5
+# pytest's own file that `python -m pytest` runs.
+MODULE = "__main__.py"
 # Passed on by the command that is shown.
 PASSED_ON = ("--toxi-program", "--toxi-workers")
 
@@ -73,7 +76,7 @@ class Section:
             value = self.item.config.getoption(option)
             # Behind a space pytest takes the path for that of a test when it looks for its ini.
             words += [] if value is None else [f"{option}={value}"]
-        return shlex.join(["pytest", *words])
+        return shlex.join([*_started(self.item.config), *words])
 
     def _from_here(self, path: Path) -> str:
         return os.path.relpath(path, self.item.config.invocation_params.dir)
@@ -107,3 +110,12 @@ class Section:
         except (OSError, ToxiError) as error:
             return f"not kept: {error}"
         return f"kept {kept}"
+
+
+def _started(config: pytest.Config) -> List[str]:
+    """How pytest was started. A virtual environment with the system's pytest has no `pytest` of its own on the PATH, and needs `python -m pytest`.
+
+    A worker of pytest-xdist has the command line of the one that started it.
+    """
+    line: List[str] = getattr(config, "workerinput", {}).get("mainargv", sys.argv)
+    return [Path(sys.executable).name, "-m", "pytest"] if line and Path(line[0]).name == MODULE else ["pytest"]

@@ -3,10 +3,13 @@ import os
 import re
 import shlex
 import subprocess
+import sys
 
 import pytest
 from services import Lines, serving
 
+# How these tests start pytest, and how a red test shows it.
+STARTED = f"{os.path.basename(sys.executable)} -m pytest"
 RED = """
 from toxi import Rule, ResetPeer
 import socket
@@ -54,8 +57,18 @@ def test_red_report(run, tmp_path):
 def test_the_shown_command_gives_the_drawn_seed(run, tmp_path):
     printed = run("-k", "red", folder=tmp_path / "sub")
     seed = re.search(r"^seed (\d+)$", printed, re.M)[1]
-    shown = re.search(r"^pytest (test_red.py::test_red --toxi-seed \d+)$", printed, re.M)[1]
+    shown = re.search(r"^\S+ -m pytest (test_red.py::test_red --toxi-seed \d+)$", printed, re.M)[1]
     assert re.search(rf"^seed {seed}$", run(*shown.split(), folder=tmp_path / "sub"), re.M)
+
+
+def test_the_shown_command_starts_pytest_as_it_was_started(run, tmp_path):
+    assert f"\n{STARTED} sub/test_red.py::test_red --toxi-seed 7\n" in run("--toxi-seed", "7")
+    script = tmp_path / "pytest"
+    script.write_text(f"#!{sys.executable}\nimport pytest\npytest.main()\n")
+    script.chmod(0o755)
+    command = [script, "-p", "toxi.pytest_plugin", "-p", "no:cacheprovider", "--toxi-seed", "7", f"--basetemp={tmp_path / 'base'}"]
+    printed = subprocess.run(command, cwd=tmp_path, capture_output=True, text=True, check=False).stdout
+    assert "\npytest sub/test_red.py::test_red --toxi-seed 7\n" in printed
 
 
 def test_each_test_draws_its_seed(run):

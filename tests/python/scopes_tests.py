@@ -7,6 +7,8 @@ import sys
 
 import pytest
 
+# How these tests start pytest, and how a red test shows it.
+STARTED = f"{os.path.basename(sys.executable)} -m pytest"
 # A client that connects and goes, so that each link has a line.
 CLIENT = """
 import socket
@@ -54,7 +56,7 @@ def test_a_red_test_shows_its_own_links(run_pytest, scope):
     printed = run_pytest({"sub/test_shared.py": CLIENT + SHARED.replace("SCOPE", scope)}, "--toxi-seed", "7")
     assert "1 failed, 2 passed" in printed
     lines = section_of(printed, f"toxi_{scope}")
-    assert lines[:2] == ["pytest sub/test_shared.py --toxi-seed 7", "seed 7"]
+    assert lines[:2] == [f"{STARTED} sub/test_shared.py --toxi-seed 7", "seed 7"]
     assert [line.split()[2] for line in lines if line.startswith("link ")] == ["3"]
     page = next(line for line in lines if line.startswith("page "))[len("page ") :]
     with open(page, encoding="utf-8") as text:
@@ -69,8 +71,8 @@ def test_the_command_of_a_session_has_the_modules_before(run_pytest):
     printed = run_pytest({**files, "test_0.py": "def test_0():\n    pass\n"})
     lines = section_of(printed, "toxi_session")
     shown = shlex.split(lines[0])
-    assert shown[:4] == ["pytest", "test_a.py", "test_b.py", "--toxi-seed"]
-    again = section_of(run_pytest({}, *shown[1:]), "toxi_session")
+    assert shown[:6] == [*STARTED.split(), "test_a.py", "test_b.py", "--toxi-seed"]
+    again = section_of(run_pytest({}, *shown[3:]), "toxi_session")
     assert [line for line in lines if line.startswith("link ")] == [line for line in again if line.startswith("link ")]
 
 
@@ -161,13 +163,13 @@ def test_settings_of_the_ini(run_pytest, tmp_path):
     (tmp_path / "tools").mkdir()
     (tmp_path / "tools" / "toxi").symlink_to(os.environ["TOXI"])
     lines = section_of(run_pytest(files, folder=tmp_path / "sub"), "toxi")
-    assert lines[0] == "pytest test_own.py::test_own --toxi-seed 11"
+    assert lines[0] == f"{STARTED} test_own.py::test_own --toxi-seed 11"
     assert lines[2].startswith(f"{tmp_path}/tools/toxi serve ") and " --seed 11 --workers 2 " in lines[2]
     told = ("--toxi-seed", "12", f"--toxi-program={os.environ['TOXI']}", "--toxi-workers=1")
     # A path that stands alone may take pytest's root elsewhere.
     for given in (told, ("--toxi-seed", "12", "--toxi-program", os.environ["TOXI"], "--toxi-workers=1")):
         lines = section_of(run_pytest(files, *given), "toxi")
-        assert lines[0] == shlex.join(["pytest", "sub/test_own.py::test_own", *told])
+        assert lines[0] == shlex.join([*STARTED.split(), "sub/test_own.py::test_own", *told])
     assert lines[2].startswith(f"{os.environ['TOXI']} serve ") and " --seed 12 --workers 1 " in lines[2]
     printed = run_pytest({**files, "pytest.ini": "[pytest]\ntoxi_seed = x\n"})
     assert "toxi_seed of the ini is 'x', no whole number" in printed
