@@ -3,7 +3,7 @@ ghost use Rattle.std.specs.Prelude.{◌≡◌, ◌≤◌, length, nat_le, IfOk};
 ghost use Rattle.std.specs.Io.Slices.{io_slices_bytes};
 
 use std::io;
-use std::io::{ErrorKind, IoSlice, Read};
+use std::io::{ErrorKind, IoSlice, Read, Write};
 use std::net::TcpStream;
 
 /// Reads what has come, at most once. A call that a signal interrupted is made again.
@@ -24,12 +24,22 @@ pub(crate) fn write_on(socket: &TcpStream, buffers: &[IoSlice<'_>]) -> io::Resul
     ensures { IfOk result (λ count. count ≤ length (io_slices_bytes buffers.now)) }
 {
     for _ in 0..u64::MAX {
-        match socket.write_vectored(buffers) {
+        match write_once(socket, buffers) {
             Err(error) if error.kind() == ErrorKind::Interrupted => {}
             answer => return answer,
         }
     }
     Err(ErrorKind::Interrupted.into())
+}
+
+/// Writes by one call. Where only the first buffer has bytes that is a plain write, which costs the system less.
+fn write_once(mut socket: &TcpStream, buffers: &[IoSlice<'_>]) -> io::Result<usize>
+    ensures { IfOk result (λ count. count ≤ length (io_slices_bytes buffers.now)) }
+{
+    match buffers.first() {
+        Some(first) if is_all(first.as_slice().len(), buffers) => socket.write(first.as_slice()),
+        _ => socket.write_vectored(buffers),
+    }
 }
 
 /// Whether so many bytes are all that these buffers have.
