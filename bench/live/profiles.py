@@ -9,8 +9,8 @@ import proxies
 import services
 
 SECONDS = 2
-# The calls of the system that pass a message.
-CALLS = {"sendto": "send", "recvfrom": "read", "epoll_wait": "wait"}
+# What the kernel calls the functions that pass a message. Several pieces are written by the second one.
+CALLS = {"write": ("__sys_sendto", "___sys_sendmsg"), "read": ("__sys_recvfrom",), "wait": ("do_epoll_wait",)}
 
 
 def reported(record, *options):
@@ -28,9 +28,9 @@ def shares(folder, process):
     subprocess.run(command, check=True, stdout=subprocess.DEVNULL, stderr=subprocess.DEVNULL)
     places = {place: share for share, place in reported(record, "--no-children", "--sort", "dso")}
     kernel = sum(share for place, share in places.items() if place.startswith("[kernel"))
-    program = sum(share for place, share in places.items() if place in ("toxi", "haproxy"))
+    program = sum(share for place, share in places.items() if place in (os.path.basename(proxies.TOXI), "haproxy"))
     within = {name: share for share, name in reported(record, "--children", "--sort", "sym")}
-    calls = ", ".join(f"{word} {within.get(f'__x64_sys_{call}', 0):.0f}" for call, word in CALLS.items())
+    calls = ", ".join(f"{what} {sum(within.get(name, 0) for name in names):.0f}" for what, names in CALLS.items())
     return f"kernel {kernel:.0f} % ({calls}), program {program:.0f} %, libraries {100 - kernel - program:.0f} %"
 
 
