@@ -1,5 +1,6 @@
 """Probes of `serve --ready`, and what `wait` does while nobody listens."""
 import contextlib
+import os
 import signal
 import socket
 import subprocess
@@ -9,7 +10,7 @@ from .registry import start
 from .served import serve_command
 from .shim import environment
 from .starts import proxy
-from .stops import Stopped
+from .stops import Stopped, log_of
 from .waiting import LIMIT, check, check_in_time, wait_until
 
 PROBES = 10
@@ -45,8 +46,8 @@ def check_refused(port):
 @start
 def probes_take_no_number(program, folder):
     """The first client of the proxy is connection 1, whoever was at the address for probes before. The process ends by itself behind that link."""
-    ready = free_port()
-    command = [*serve_command(program, folder, [proxy("shop")]), "--links", "1", "--verbose", "--ready", f"127.0.0.1:{ready}"]
+    ready, logs = free_port(), os.path.join(folder, "logs-probes")
+    command = [*serve_command(program, folder, [proxy("shop")], logs=logs), "--links", "1", "--verbose", "--ready", f"127.0.0.1:{ready}"]
     with subprocess.Popen(command, stdout=subprocess.PIPE, stderr=subprocess.PIPE, text=True) as process:
         subprocess.run(wait_command(program, f"127.0.0.1:{ready}", 10_000), check=True, timeout=2 * LIMIT)
         for number in range(PROBES):
@@ -58,6 +59,9 @@ def probes_take_no_number(program, folder):
     check(process.returncode == 0, f"it ended with status {process.returncode}")
     check(output == "link shop 1 up 0 broken down 0 broken\ntotal shop 1 up 0 down 0\n", f"it printed `{output}`")
     check(errors == "toxi: broken shop 1: upstream 127.0.0.1:1: connection refused\n", f"it said `{errors}`")
+    for stream in ("upstream", "downstream"):
+        last = log_of(logs, stream)[-1]
+        check(last == "broken upstream 0", f"the log of {stream} ends in `{last}`")
     check_refused(ready)
 
 

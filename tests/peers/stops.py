@@ -320,13 +320,17 @@ def a_cut_link_in_a_rest_is_broken_off(program, folder):
 @start
 def a_connect_that_hangs_is_given_up(program, folder):
     """The upstream's queue is full, so that connects to it wait."""
-    with Stopped(program, folder, queue=0) as toxi, socket.socket() as waits:
+    logs = os.path.join(folder, "logs-hanging")
+    with Stopped(program, folder, queue=0, logs=logs) as toxi, socket.socket() as waits:
         waits.connect(toxi.upstream.getsockname())
         clients = [toxi.client() for _ in range(5)]
         time.sleep(0.2)
         ended = told_of_all(toxi.tell(), 5)
         for number in range(1, 6):
             says(ended[number], 0, "broken", 0, "broken")
+            for stream in ("upstream", "downstream"):
+                last = log_of(logs, stream, number)[-1]
+                check(last == "broken stopped 0", f"the log of link {number} {stream} ends in `{last}`")
         for client in clients:
             client.close()
 
