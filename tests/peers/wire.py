@@ -7,11 +7,12 @@ import threading
 import time
 
 from .ends import read_all, read_count, reset, shut_writing
+from .probes import processor_time
 from .registry import case, start
 from .served import Engine
 from .shim import environment
 from .stops import ALWAYS, LINK, Stopped, log_of
-from .waiting import LIMIT, Failed, check
+from .waiting import LIMIT, Failed, check, check_in_time
 
 SLOW = """[[rule]]
 proxy = "shop"
@@ -19,6 +20,16 @@ first = 1
 [[rule.toxic]]
 type = "latency"
 attributes = { latency = 3600000 }
+"""
+# How long a connect takes, and when the link is reset, in milliseconds.
+PAUSE = 500
+RESETS = 300
+RESET = f"""[[rule]]
+proxy = "shop"
+first = 1
+[[rule.toxic]]
+type = "reset_peer"
+attributes = {{ timeout = {RESETS} }}
 """
 READING = re.compile(r"(\d+) (piece \d+|end|end reset|wrote .*)")
 # No case takes so long, in microseconds.
@@ -79,6 +90,24 @@ def upstream_that_resets_was_reached(program, folder):
 
 
 @start
+def reset_counts_from_the_connection(program, folder):
+    """The upstream's connect takes longer than the reset's time, so both peers are reset as soon as it ends."""
+    with Stopped(program, folder, RESET, env=environment(TOXI_CONNECT_PAUSE=PAUSE)) as toxi:
+        begun = time.monotonic()
+        client = toxi.client()
+        server, _ = toxi.upstream.accept()
+        for peer in (client, server):
+            try:
+                heard = peer.recv(1)
+                raise Failed(f"a peer heard {heard} and no reset")
+            except ConnectionResetError:
+                peer.close()
+        took = 1000 * (time.monotonic() - begun)
+        check_in_time(took < PAUSE + RESETS, f"the reset came after {took:.0f} ms")
+        toxi.tell(limit=ALWAYS)
+
+
+@start
 def reset_of_a_peer_is_logged(program, folder):
     """A source that resets is told from one that ends, in both streams."""
     logs = os.path.join(folder, "logs-peer")
@@ -96,6 +125,24 @@ def reset_of_a_peer_is_logged(program, folder):
     for number, stream, ends in ((1, "upstream", "end reset"), (2, "downstream", "end reset"), (3, "upstream", "end")):
         said = [line.split(" ", 1)[1] for line in log_of(logs, stream, number) if READING.fullmatch(line)]
         check(ends in said, f"the log of link {number} {stream} has {said}")
+    for number, stream in ((1, "downstream"), (2, "upstream"), (3, "downstream")):
+        check("reset" not in " ".join(log_of(logs, stream, number)[1:]).replace("reset_peer", ""), f"the log of link {number} {stream} has a reset")
+
+
+@start
+def link_that_waits_leaves_the_cores_alone(program, folder):
+    """Its bytes are due in an hour, so it rests."""
+    with Stopped(program, folder, SLOW) as toxi:
+        client, server = toxi.link()
+        server.sendall(b"later")
+        time.sleep(0.2)
+        before = processor_time(toxi.process.pid)
+        time.sleep(1)
+        used = processor_time(toxi.process.pid) - before
+        check(used < 50, f"it used {10 * used} ms of a second")
+        toxi.tell(limit=ALWAYS)
+        client.close()
+        server.close()
 
 
 @start
