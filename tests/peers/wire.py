@@ -126,7 +126,7 @@ def reset_of_a_peer_is_logged(program, folder):
         said = [line.split(" ", 1)[1] for line in log_of(logs, stream, number) if READING.fullmatch(line)]
         check(ends in said, f"the log of link {number} {stream} has {said}")
     for number, stream in ((1, "downstream"), (2, "upstream"), (3, "downstream")):
-        check("reset" not in " ".join(log_of(logs, stream, number)[1:]).replace("reset_peer", ""), f"the log of link {number} {stream} has a reset")
+        check(not any("reset" in line for line in log_of(logs, stream, number)), f"the log of link {number} {stream} has a reset")
 
 
 @start
