@@ -5,10 +5,12 @@ import time
 
 from .ends import read_all, read_count
 from .registry import case
+from .served import Engine
 from .waiting import LIMIT, check, check_in_time
 
-# What each socket of a link is told to do about a silent peer: whether it asks, and when.
-KEEP_ALIVE = {
+# What each socket of a link is told: that small writes go out at once, and whether and when a silent peer is asked.
+OPTIONS = {
+    (socket.IPPROTO_TCP, socket.TCP_NODELAY): 1,
     (socket.SOL_SOCKET, socket.SO_KEEPALIVE): 1,
     (socket.IPPROTO_TCP, socket.TCP_KEEPIDLE): 60,
     (socket.IPPROTO_TCP, socket.TCP_KEEPINTVL): 10,
@@ -61,16 +63,35 @@ def links_take_two_descriptors(toxi):
     toxi.ended_alike(100, [(1, "closed")], [(0, "closed")])
 
 
+@case(40)
+def workers_share_the_links(toxi):
+    """Each worker has two thirds of its share at least, when all clients come at once."""
+    clients = begin_clients(toxi, 40)
+    servers = [toxi.upstream.accept() for _ in clients]
+    for server in servers:
+        server.sendall(b"a")
+    for client in clients:
+        select.select([client], [], [], LIMIT)
+        check(client.recv(1) == b"a", "a client heard other bytes than the upstream said")
+    if Engine.workers:
+        sockets = toxi.polled()
+        check(len(sockets) == Engine.workers, f"there are {len(sockets)} polls with links")
+        check(sockets[0] * Engine.workers * 3 >= 2 * sum(sockets), f"the workers have {sockets} of the links' sockets")
+    for end in (*clients, *servers):
+        end.close()
+    toxi.ended_alike(40, [(0, "closed")], [(1, "closed")])
+
+
 @case(1)
-def silent_peers_are_asked(toxi):
-    """The system asks the peers of both sockets whether they still live."""
+def sockets_have_their_options(toxi):
+    """Small writes go out at once, and the system asks the peers of both sockets whether they still live."""
     client, server = toxi.link()
     client.sendall(b"a")
     read_count(server, 1)
     sockets = toxi.link_sockets()
     check(len(sockets) == 2, f"a link has {len(sockets)} sockets")
     for end in sockets:
-        for option, want in KEEP_ALIVE.items():
+        for option, want in OPTIONS.items():
             told = end.getsockopt(*option)
             check(told == want, f"option {option} is {told}")
         end.close()

@@ -104,6 +104,25 @@ class Served:
     def allow_descriptors(self, more):
         """Sets the soft limit to so many descriptors more than it has at rest. Without a number it is lifted."""
         self.may_be_cut = True
+    def sleeps(self):
+        """Whether each of its threads waits for something."""
+        states = []
+        for path in glob.glob(f"/proc/{self.process.pid}/task/*/stat"):
+            with open(path) as file:
+                states.append(file.read().rpartition(")")[2].split()[0])
+        return set(states) == {"S"}
+
+    def polled(self):
+        """How many sockets of links each of its polls watches, in ascending order."""
+        polls = {}
+        for descriptor in self.at_rest:
+            with open(f"/proc/{self.process.pid}/fdinfo/{descriptor}") as file:
+                watched = [int(line.split()[1]) for line in file if line.startswith("tfd:")]
+            if watched:
+                # A worker has two handles of its poll.
+                polls[tuple(sorted(watched))] = sum(each not in self.at_rest for each in watched)
+        return sorted(polls.values())
+
         _, hard = resource.prlimit(self.process.pid, resource.RLIMIT_NOFILE)
         soft = hard if more is None else len(self.at_rest) + more
         resource.prlimit(self.process.pid, resource.RLIMIT_NOFILE, (soft, hard))

@@ -1,5 +1,6 @@
 //! A few threads that drive many links by what the system reports of their sockets, each link as two step machines.
 
+mod balance;
 mod connecting;
 mod flow;
 mod link_key;

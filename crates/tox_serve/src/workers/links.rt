@@ -1,6 +1,6 @@
 //! The links of a worker, in slots that are used again.
-ghost use Rattle.std.specs.Prelude.{◌≡◌, ◌<◌, ◌^◌, IfSome, None, Some};
-ghost use Rattle.slab.specs.Slab.{Updates, get};
+ghost use Rattle.std.specs.Prelude.{◌≡◌, ◌<◌, ◌+◌, ◌%◌, ◌^◌, IfSome, None, Some};
+ghost use Rattle.slab.specs.Slab.{Updates, get, slab_len};
 ghost use Rattle.tox_serve.specs.workers.Places.{freed, key_at, link_state_of, with_link_state};
 
 use crate::workers::link_key::LinkKey;
@@ -40,6 +40,13 @@ impl<'r, R: Clock + Wait> Links<'r, R> {
 
     pub(crate) fn is_empty(&self) -> bool {
         self.places.is_empty()
+    }
+
+    /// How many links there are.
+    pub(crate) fn len(&self) -> usize
+        ensures { result ≡ slab_len self.now.places }
+    {
+        self.places.len()
     }
 
     /// How many slots there are.

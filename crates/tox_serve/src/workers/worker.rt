@@ -34,6 +34,8 @@ pub(crate) struct Worker<'s, R> {
     rt: &'s R,
     run: &'s ServeRun<'s>,
     workers: &'s Workers<'s>,
+    /// Its place among the workers.
+    place: usize,
     registry: Registry,
     /// When it started.
     start: LinkStart,
@@ -57,6 +59,7 @@ pub(crate) fn work<'s, R: ServeRuntime>(
     worker_poll: WorkerPoll,
 ) {
     let WorkerPoll {
+        place,
         mut poll,
         registry,
         mut events,
@@ -67,6 +70,7 @@ pub(crate) fn work<'s, R: ServeRuntime>(
         rt,
         run,
         workers,
+        place,
         registry,
         start: LinkStart::now(rt),
         links: Links::new(run.alloc),
@@ -138,5 +142,6 @@ impl<'s, R: ServeRuntime> Worker<'s, R> {
         let now = self.now();
         self.fire(now);
         self.take_turns(scratch);
+        self.note_links();
     }
 }

@@ -67,17 +67,36 @@ impl<'s, R: ServeRuntime> Worker<'s, R> {
         }
     }
 
-    /// Takes a connection, and begins its link. Tells when the proxy is to be asked again, if not at once.
+    /// Tells the other workers how many links this one has.
+    pub(super) fn note_links(&self) {
+        self.workers
+            .balance
+            .note(self.place, self.links.len() as u64);
+    }
+
+    /// Takes a connection, and begins its link, unless it is left to another worker. Tells when the proxy is to be asked again, if not at
+    /// once.
     fn take_one(&mut self, place: usize) -> Option<Accepting> {
+        self.note_links();
         let workers = self.workers;
         let proxy = workers.proxies.get(place)?;
-        match proxy.listener.take(self.rt, self.run, &proxy.links) {
+        let next_worker = workers.balance.next_worker(self.links.len() as u64);
+        match proxy
+            .listener
+            .take(self.rt, self.run, &proxy.links, next_worker.is_some())
+        {
             Accepted::Client(taken) => {
                 self.begin(place, taken);
                 None
             }
             Accepted::Dropped => None,
             Accepted::NotNow => Some(Accepting::Waits),
+            Accepted::Left { wakes } => {
+                if let (true, Some(next)) = (wakes, next_worker) {
+                    workers.wake(next);
+                }
+                Some(Accepting::Waits)
+            }
             Accepted::OutOfResources => Some(Accepting::RestsUntil(
                 self.now().saturating_add(ACCEPT_REST * MILLI),
             )),
