@@ -3,7 +3,7 @@ use crate::addresses::listen_address;
 use std::alloc::Global;
 use std::net::{Net, TcpListener, TcpStream};
 use std::sync::{Arc, Wait};
-use tox_sockets::{LiveSocket, LiveSockets, lengthen_queue};
+use tox_sockets::{LiveSocket, LiveSockets, prepare_listener};
 
 /// Why an address isn't listened at.
 #[derive(Clone, Copy, PartialEq, Eq)]
@@ -22,7 +22,8 @@ pub(crate) struct LiveListener {
 }
 
 impl LiveListener {
-    /// Listens at an address. The queue of connections is as long as the system allows, and an `accept` doesn't wait.
+    /// Listens at an address. The queue of connections is as long as the system allows, an `accept` doesn't wait, and what it gives is
+    /// prepared for a link.
     pub(crate) fn bind<R: Net<Listener = TcpListener, Stream = TcpStream> + Wait>(
         rt: &R,
         alloc: Global,
@@ -35,7 +36,7 @@ impl LiveListener {
         let Ok(listener) = TcpListener::bind(rt, address.as_str()) else {
             return Err(BindFault::Refused);
         };
-        if lengthen_queue(&listener).is_err() || listener.set_nonblocking(true).is_err() {
+        if prepare_listener(&listener).is_err() || listener.set_nonblocking(true).is_err() {
             return Err(BindFault::Refused);
         }
         let Ok(listener) = Arc::new(alloc, listener) else {

@@ -23,7 +23,7 @@ pub use link_sockets::LinkSockets;
 pub use live_sockets::{LiveSocket, LiveSockets};
 pub use ready_sink::ReadySink;
 pub use ready_source::ReadySource;
-pub use socket_calls::{can_read, can_write, lengthen_queue};
+pub use socket_calls::{can_read, can_write, prepare_listener};
 pub use spare::SpareDescriptor;
 pub use until_cut::UntilCut;
 pub use until_due::UntilDue;

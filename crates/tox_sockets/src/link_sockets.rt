@@ -3,7 +3,7 @@ ghost use Rattle.std.specs.Prelude.{◌≡◌, IfSome, false};
 ghost use Rattle.std.specs.Arc.{arc_value};
 ghost use Rattle.tox_sockets.specs.Streams.{source_of, target_of};
 
-use crate::socket_calls::keep_alive;
+use crate::socket_calls::prepare_connection;
 use crate::sockets::Sockets;
 use std::alloc::Global;
 use std::net::TcpStream;
@@ -34,7 +34,7 @@ pub struct LinkSockets {
 }
 
 impl LinkSockets {
-    /// Of a client, and of the upstream that was connected for it. None if out of memory.
+    /// Of a client, which a prepared listener gave, and of the upstream that was connected for it. None if out of memory.
     pub fn new(
         alloc: Global,
         client: TcpStream,
@@ -43,8 +43,8 @@ impl LinkSockets {
         ensures client { IfSome result (λ link. (arc_value link).client ≡ client) }
         ensures server { IfSome result (λ link. (arc_value link).server ≡ server) }
     {
-        prepare(&client);
-        prepare(&server);
+        // A socket that is gone by now refuses its options, and its first read or write tells.
+        let _ = prepare_connection(&server);
         Arc::new(
             alloc,
             LinkSockets {
@@ -130,11 +130,4 @@ impl LinkSockets {
             was_stopped: false,
         }
     }
-}
-
-/// Small writes go out at once, and a peer that vanishes is found. A socket that is gone by now refuses that, and its first
-/// read or write tells.
-fn prepare(socket: &TcpStream) {
-    let _ = socket.set_nodelay(true);
-    let _ = keep_alive(socket);
 }

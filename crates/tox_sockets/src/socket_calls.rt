@@ -37,14 +37,36 @@ impl KeepAlive {
     }
 }
 
-/// Lets as many connections wait for `accept` as the system allows.
-pub fn lengthen_queue(listener: &TcpListener) -> io::Result<()> {
-    check(system::listen(listener.as_raw_fd(), i32::MAX))
+/// Lets as many connections of a listener wait for `accept` as the system allows, and prepares each of them: on Linux it has these
+/// options from its listener.
+pub fn prepare_listener(listener: &TcpListener) -> io::Result<()> {
+    let fd = listener.as_raw_fd();
+    check(system::listen(fd, i32::MAX))?;
+    prepare(fd)
 }
 
-/// Has the system ask a silent peer of a link whether it still lives.
-pub fn keep_alive(socket: &TcpStream) -> io::Result<()> {
-    let fd = socket.as_raw_fd();
+/// Prepares a connection that a link has made.
+pub fn prepare_connection(socket: &TcpStream) -> io::Result<()> {
+    prepare(socket.as_raw_fd())
+}
+
+/// Small writes go out at once, and the system asks a silent peer whether it still lives.
+fn prepare(fd: RawFd) -> io::Result<()> {
+    let on = number(1);
+    check(unsafe {
+        system::setsockopt(
+            fd,
+            system::IPPROTO_TCP,
+            system::TCP_NODELAY,
+            &on,
+            NUMBER_LEN,
+        )
+    })?;
+    keep_alive(fd)
+}
+
+/// Has the system ask a silent peer whether it still lives.
+fn keep_alive(fd: RawFd) -> io::Result<()> {
     let KeepAlive {
         idle,
         interval,
