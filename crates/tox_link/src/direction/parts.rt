@@ -34,7 +34,9 @@ pub(crate) fn parts_of<'a>(
         stop: first.slice.span.stop.min(written + READ_SIZE as u64),
     };
     let front = front_of(window, &left, first.slice.instant);
-    if whole_at(window, unwritten, 0, first.slice.span.start).is_empty() {
+    let is_joined = unwritten.len() > 1
+        && !whole_at(window, unwritten, 0, first.slice.span.start).is_empty();
+    if !is_joined {
         return parts(front, &[], &[], &[]);
     }
     let at = written + front.len() as u64;

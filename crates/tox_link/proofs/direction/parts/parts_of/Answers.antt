@@ -5,8 +5,8 @@ use Rattle.tox_link.proofs.HeldLemmas.{from-append}
 use Rattle.tox_link.proofs.UnwrittenLemmas.{begins}
 use Rattle.tox_link.proofs.direction.parts.parts_of.Goals as goal
 
-pub returns-then-is_empty-clause-bytes : goal.returns-then-is_empty-clause-bytes
-returns-then-is_empty-clause-bytes c =
+pub returns-then-not-is_joined-clause-bytes : goal.returns-then-not-is_joined-clause-bytes
+returns-then-not-is_joined-clause-bytes c =
     let front = c.front_of-front.result.now in
     let window = c.args.window.now in
     λ position joined.
