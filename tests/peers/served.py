@@ -1,6 +1,7 @@
 """A `toxi serve` process: its lines, its threads, its descriptors and its sockets."""
 import contextlib
 import ctypes
+import glob
 import json
 import os
 import re
@@ -85,8 +86,13 @@ class Served:
         check(self.lines(), f"it ended with status {self.process.returncode} before it listened")
         wait_until(lambda: self.threads() == Engine.threads_at_rest(), "the threads of a process without links")
         self.port = int(self.lines()[0].rpartition(":")[2])
-        self.at_rest = self.descriptors()
+        wait_until(self.is_seen_at_rest, "a process whose threads sleep")
         check(self.at_rest == list(range(len(self.at_rest))), f"there are gaps in its descriptors {self.at_rest}")
+
+    def is_seen_at_rest(self):
+        """Whether all threads sleep, and then which descriptors there are. One that looks for a connection has one more in hand."""
+        self.at_rest = self.descriptors()
+        return self.sleeps() and self.descriptors() == self.at_rest
 
     def lines(self):
         """The whole lines that it printed so far."""
@@ -98,12 +104,6 @@ class Served:
     def threads(self):
         return len(os.listdir(f"/proc/{self.process.pid}/task"))
 
-    def descriptors(self):
-        return sorted(map(int, os.listdir(f"/proc/{self.process.pid}/fd")))
-
-    def allow_descriptors(self, more):
-        """Sets the soft limit to so many descriptors more than it has at rest. Without a number it is lifted."""
-        self.may_be_cut = True
     def sleeps(self):
         """Whether each of its threads waits for something."""
         states = []
@@ -123,6 +123,12 @@ class Served:
                 polls[tuple(sorted(watched))] = sum(each not in self.at_rest for each in watched)
         return sorted(polls.values())
 
+    def descriptors(self):
+        return sorted(map(int, os.listdir(f"/proc/{self.process.pid}/fd")))
+
+    def allow_descriptors(self, more):
+        """Sets the soft limit to so many descriptors more than it has at rest. Without a number it is lifted."""
+        self.may_be_cut = True
         _, hard = resource.prlimit(self.process.pid, resource.RLIMIT_NOFILE)
         soft = hard if more is None else len(self.at_rest) + more
         resource.prlimit(self.process.pid, resource.RLIMIT_NOFILE, (soft, hard))
