@@ -35,18 +35,29 @@ def line_of(child, since=None, within=PATIENCE):
     return line.rstrip("\n")
 
 
+def refused(line):
+    """The number of the first link whose upstream refused the connection, and of how many links the line tells."""
+    told = re.fullmatch(r"toxi: broken default (\d+): upstream 127\.0\.0\.1:1: connection refused(?:, and (\d+) more)?", line)
+    assert told, line
+    return int(told[1]), 1 + int(told[2] or 0)
+
+
 def tells_at_once_and_then_the_number(program, _folder):
     for way in WAYS:
         with served(program, "127.0.0.1:1", *way) as (child, address):
-            connect(address)
             begun = time.monotonic()
+            connect(address)
             assert line_of(child) == "toxi: broken default 1: upstream 127.0.0.1:1: connection refused"
             for _ in range(5):
                 connect(address)
-            line = line_of(child)
-            took = time.monotonic() - begun
-            assert line == "toxi: broken default 2: upstream 127.0.0.1:1: connection refused, and 4 more", line
-            assert took > 0.9, took
+            # On a busy machine they take more than a second, and so more than one line.
+            lines, links = 1, 1
+            while links < 6:
+                number, count = refused(line_of(child))
+                took = time.monotonic() - begun
+                assert number > 1 and took >= lines, (number, took)
+                lines += 1
+                links += count
             connect(address)
             assert line_of(child) == "toxi: broken default 7: upstream 127.0.0.1:1: connection refused"
 
@@ -54,12 +65,16 @@ def tells_at_once_and_then_the_number(program, _folder):
 def tells_all_at_the_end(program, _folder):
     for way in WAYS:
         with served(program, "127.0.0.1:1", "--links", "4", *way) as (child, address):
-            for _ in range(4):
+            connect(address)
+            assert line_of(child) == "toxi: broken default 1: upstream 127.0.0.1:1: connection refused"
+            begun = time.monotonic()
+            for _ in range(3):
                 connect(address)
             child.wait(PATIENCE)
-            wanted = ["toxi: broken default 1: upstream 127.0.0.1:1: connection refused", "toxi: broken default 2: upstream 127.0.0.1:1: connection refused, and 2 more"]
-            said = child.stderr.read().splitlines()
-            assert said == wanted, said
+            took = time.monotonic() - begun
+            counts = [count for _, count in map(refused, child.stderr.read().splitlines())]
+            # The end doesn't wait for the second to pass.
+            assert sum(counts) == 3 and len(counts) <= 1 + took, (counts, took)
 
 
 def tells_a_name_that_is_not_found(program, _folder):
