@@ -164,7 +164,9 @@ pub fn serve_with<
 }
 
 /// The logs of a run, if its options want them.
-fn logs_of(alloc: Global, options: &ServeOptions<'_>) -> Option<RunLogs> {
+fn logs_of(alloc: Global, options: &ServeOptions<'_>) -> Option<RunLogs>
+    ensures { result ≡ options.now.logs }
+{
     match options.logs {
         Some(limits) => Some(RunLogs::new(alloc, limits)),
         None => None,

@@ -53,7 +53,7 @@ impl<'r, R: Clock> ReadySink<'r, R> {
         ensures due { IfSome result (λ writer. writer.due ≡ fold after_op None ops.now) }
         ensures working { IfSome result (λ writer. writer.failed ≡ false) }
         ensures fresh { IfSome result (λ writer. (writer.start ≡ start)
-            × (writer.writable ≡ true) × (writer.full ≡ false)) }
+            × (writer.writable ≡ true) × (writer.full ≡ false) × (writer.waits ≡ false)) }
     {
         let link = link.clone().ok()?;
         let due = reset_due(ops);

@@ -32,8 +32,8 @@ pub struct ReadySource {
 }
 
 impl ReadySource {
-    /// A reader of a stream's source, of which nothing is known but whether its peer was reported to send no more: urgent data
-    /// may have come. None where the link can't be shared by one more.
+    /// A new reader of a stream's source, which may have something to read, and urgent data. `closing`: its peer was reported to have
+    /// closed its writing half. None where the link can't be shared by one more.
     pub fn new(
         link: &Arc<LinkSockets, Global>,
         stream: Stream,
@@ -43,7 +43,7 @@ impl ReadySource {
         ensures stream { IfSome result (λ reader. reader.stream ≡ stream) }
         ensures working { IfSome result (λ reader. reader.failed ≡ false) }
         ensures fresh { IfSome result (λ reader. (reader.readable ≡ true)
-            × (reader.closing ≡ closing) × (reader.urgent ≡ true)) }
+            × (reader.closing ≡ closing) × (reader.urgent ≡ true) × (reader.waits ≡ false)) }
     {
         let link = link.clone().ok()?;
         Some(ReadySource {

@@ -47,6 +47,7 @@ impl<'a, 'r, R: Wait + Clock> UntilDue<'a, 'r, R> {
         ensures socket { result.socket.now ≡ target_of stream link.now }
         ensures due { result.due ≡ fold after_op None ops.now }
         ensures full { result.is_full ≡ false }
+        ensures clock { result.clock.start ≡ clock.entry.start }
     {
         let due = reset_due(ops);
         let socket = link.ends_of(stream).target;

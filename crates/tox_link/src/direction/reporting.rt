@@ -26,7 +26,7 @@ pub fn finish<C: Clock, S: Drop>(
         (λ fault. written_before fault ≡ link.written) }
     ensures same { MatchResult driven
         (λ ending. IfOk result (λ timed. (timed.report.ending ≡ ending)
-        × (timed.report.reader ≡ reader)))
+        × (timed.report.reader ≡ reader) × (timed.report.source ≡ link.source)))
         (λ fault. result ≡ Err fault) }
     ensures log { IfOk result (λ timed. (left : Option (List ℕ))
         (history : History (C.reported clock.now) link left)

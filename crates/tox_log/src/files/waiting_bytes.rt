@@ -1,5 +1,5 @@
 //! How many bytes of all logs wait for their files.
-ghost use Rattle.std.specs.Prelude.{◌≡◌, ◌+◌, ◌<◌, ◌≤◌, ◌^◌, IfSome, max, min};
+ghost use Rattle.std.specs.Prelude.{◌≡◌, ◌+◌, ◌-◌, ◌<◌, ◌≤◌, ◌^◌, IfSome, max, min};
 
 use std::sync::Wait;
 use std::sync::atomic::{AtomicBool, AtomicIn, Ordering, Rule};
@@ -104,7 +104,7 @@ impl WaitingBytes {
         let Share { bytes } = share;
         for _ in rt.forever() {
             let count = self.count.load(Ordering::SeqCst);
-            if self.set(count, count.saturating_sub(bytes)) {
+            if self.set(count, after_leaving(count, bytes)) {
                 return;
             }
         }
@@ -131,7 +131,7 @@ impl WaitingBytes {
         requires { old + bytes ≤ 67108864 }
         ensures { IfSome result (λ share. share.bytes ≡ bytes) }
     {
-        if !self.set(old, old + bytes) {
+        if !self.set(old, after_coming(old, bytes)) {
             return None;
         }
         Some(Share { bytes })
@@ -145,4 +145,19 @@ impl WaitingBytes {
             .compare_exchange(old, new, Ordering::SeqCst, Ordering::SeqCst)
             .is_ok()
     }
+}
+
+/// The count after so many bytes came.
+fn after_coming(count: u64, bytes: u64) -> u64
+    requires { count + bytes ≤ 67108864 }
+    ensures { result ≡ count + bytes }
+{
+    count + bytes
+}
+
+/// The count after so many bytes have left.
+fn after_leaving(count: u64, bytes: u64) -> u64
+    ensures { result ≡ count - bytes }
+{
+    count.saturating_sub(bytes)
 }

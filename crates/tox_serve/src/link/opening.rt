@@ -1,5 +1,6 @@
 //! A link once its upstream is reached: its line, its sockets, and its place among the live ones.
 ghost use Rattle.std.specs.Prelude.{◌≡◌, IfSome};
+ghost use Rattle.std.specs.Arc.{arc_value};
 ghost use Rattle.tox_time.specs.declared.streams.stream.Stream.TheVariants as StreamOf;
 ghost use Rattle.tox_serve.specs.link.Courses.{IsCourse};
 
@@ -38,6 +39,9 @@ pub(crate) fn open_link<R: Wait>(
         links.now.proxy.now.name taken.number StreamOf.Upstream opened.courses.up) }
     ensures down { IfSome result (λ opened. IsCourse run.now.script.now run.now.seed
         links.now.proxy.now.name taken.number StreamOf.Downstream opened.courses.down) }
+    ensures sockets { IfSome result (λ opened.
+        ((arc_value opened.sockets).client ≡ taken.client)
+        × ((arc_value opened.sockets).server ≡ reached.server)) }
 {
     let proxy = links.proxy;
     let Taken { client, number } = taken;

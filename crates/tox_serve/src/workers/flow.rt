@@ -66,7 +66,8 @@ impl<'r, R: Clock + Wait> Flow<'r, R> {
         course: Course,
         closing: bool,
     ) -> Option<Flow<'r, R>>
-        ensures { IfSome result (BeginsCourse course closing) }
+        ensures begins { IfSome result (BeginsCourse course closing) }
+        ensures starts { IfSome result (λ flow. flow.sink.start ≡ start) }
     {
         let Course {
             stream,

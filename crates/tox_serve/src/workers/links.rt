@@ -50,7 +50,9 @@ impl<'r, R: Clock + Wait> Links<'r, R> {
     }
 
     /// How many slots there are.
-    pub(crate) fn slots(&self) -> usize {
+    pub(crate) fn slots(&self) -> usize
+        ensures { result ≡ self.now.places.capacity }
+    {
         self.places.capacity()
     }
 
@@ -71,6 +73,8 @@ impl<'r, R: Clock + Wait> Links<'r, R> {
     /// A place for one more link. None if out of memory.
     pub(crate) fn open(&mut self) -> Option<LinkKey>
         ensures fits { IfSome result (λ key. key.slot < 2 ^ 30) }
+        ensures its { IfSome result (λ key. key.generation ≡ self.old.next) }
+        ensures next { self.new.next ≡ (self.old.next + 1) % 2 ^ 32 }
         ensures free { IfSome result (λ key. get self.old.places key.slot ≡ None) }
         ensures opens { IfSome result (λ key. Updates self.old.places self.new.places key.slot
             (Some (record { generation = key.generation; state = None }))) }
@@ -131,8 +135,7 @@ impl<'r, R: Clock + Wait> Links<'r, R> {
             return;
         };
         if place.generation == key.generation {
-            let before = place.state.replace(state);
-            drop(before);
+            place.state = Some(state);
         }
     }
 

@@ -1,5 +1,9 @@
 //! Connecting the upstream of a link.
-ghost use Rattle.std.specs.Prelude.{◌≡◌, ◌||◌, ◌↔◌, false, IfSome, IsSome};
+ghost use Rattle.std.specs.Prelude.{◌≡◌, ◌||◌, ◌↔◌, false, IfSome, IsSome, Some};
+ghost use Rattle.slab.specs.Slab.{Updates, get};
+ghost use Rattle.tox_serve.specs.workers.Directions.{is_armed};
+ghost use Rattle.tox_serve.specs.workers.Places.{with_link_state};
+ghost use Rattle.tox_serve.specs.declared.workers.link_state.LinkState.TheVariants.{Connecting as ConnectingState};
 ghost use Rattle.tox_serve.specs.workers.Begun.{IsLinkOf};
 
 use crate::link::break_reason::BreakReason;
@@ -282,7 +286,12 @@ impl<'s, R: ServeRuntime> Worker<'s, R> {
     }
 
     /// The timer of a connect is over. It is given up if that is its own, and not one of an address before.
-    pub(super) fn on_deadline(&mut self, key: LinkKey, connecting: Connecting, due: u64) {
+    pub(super) fn on_deadline(&mut self, key: LinkKey, connecting: Connecting, due: u64)
+        ensures { is_armed due connecting.deadline ≡ false
+            → Updates self.old.links.places self.new.links.places key.slot (with_link_state
+            key.generation (Some (ConnectingState connecting))
+            (get self.old.links.places key.slot)) }
+    {
         if connecting.deadline == Some(due) {
             self.connect_next(key, connecting, ErrorKind::TimedOut);
         } else {

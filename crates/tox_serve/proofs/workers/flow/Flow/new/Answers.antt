@@ -4,8 +4,8 @@ use Rattle.std.specs.Prelude.{fold}
 use Rattle.tox_sockets.specs.ResetDue.{after_op}
 use Rattle.tox_serve.proofs.workers.flow.Flow.new.Goals as goal
 
-pub returns : goal.returns
-returns g c =
+pub returns-clause-begins : goal.returns-clause-begins
+returns-clause-begins g c =
     let link : c.of.result.link.value ≡ c.in_ok-link.link = search rules in
     let due : c.in_ok-sink.sink.due ≡ fold after_op None c.args.course.plan.ops = search rules in
     record {
