@@ -60,6 +60,10 @@ impl<'w> Model for LinkCore<'w> {
 
 impl<'w> LinkCore<'w> {
     /// A core of the plan. Nothing has arrived yet, and its last instant is 0.
+    ///
+    /// # Errors
+    ///
+    /// Out of memory.
     pub fn new(alloc: Global, plan: Plan, words: &'w Words) -> Result<LinkCore<'w>, AllocError>
         ensures { IfOk result (IsNewCore plan words.now) }
     {
@@ -68,6 +72,10 @@ impl<'w> LinkCore<'w> {
     }
 
     /// A core of the plan that keeps its words. Nothing has arrived yet, and its last instant is 0.
+    ///
+    /// # Errors
+    ///
+    /// Out of memory.
     pub fn owning(alloc: Global, plan: Plan, words: Words) -> Result<LinkCore<'w>, AllocError>
         ensures { IfOk result (IsNewCore plan words) }
     {

@@ -13,7 +13,7 @@ pub enum LinkEvent {
     Piece(u64, Micros),
     /// The source's end was taken at this instant.
     SourceEnd(Micros),
-    /// The slice was written after this reading of the clock.
+    /// The slice was written. The core gave it at this reading of the clock.
     Wrote(Slice, Micros),
 }
 

@@ -11,11 +11,11 @@ use std::alloc::AllocError;
 pub enum SourceEnding {
     /// The reader had nothing left.
     Eof,
-    /// K1: a read failed.
+    /// A read failed.
     ReadFault,
-    /// K3: as many reads were made as were allowed.
+    /// As many reads were made as were allowed.
     ReadsUsedUp,
-    /// K4: the reader gave more than 2^40 bytes.
+    /// The reader gave more than 2^40 bytes.
     TooManyBytes,
     /// The link's ending was known before the source's end came.
     NotReached,

@@ -79,7 +79,7 @@ fn print_ending<W: Sink>(printer: &mut Printer<'_, W>, ending: &Ending) -> Resul
     }
 }
 
-/// Prints how late the writes were, if there was one, and ends the line.
+/// Prints how late the writes and a timed ending were, if anything was timed, and ends the line.
 fn print_late<W: Sink>(
     printer: &mut Printer<'_, W>,
     late: &Option<Percentiles>,

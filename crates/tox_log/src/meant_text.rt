@@ -14,8 +14,10 @@ use tox_text::Part::{Number, Word};
 use tox_text::{Printer, print_ending};
 use tox_time::{EndFault, Ending, Micros, Sink, Slice, Source};
 
-/// Prints what a chain, or without one the log's, means for what is left of a log, under the log's words: a line for each longest run of bytes that came
-/// in one piece and leave at one instant, with their number, and a line for the ending.
+/// Prints what a chain means for what is left of a log, under the log's words. Without a chain it is the log's own.
+///
+/// It is a line for each longest run of bytes that came in one piece and leave at one instant, with their number, and a line for the
+/// ending.
 pub fn print_meant<R: Source, W: Sink>(
     alloc: Global,
     log: &mut OpenLog,

@@ -9,8 +9,8 @@ use crate::last_line::LastLine;
 use tox_link::LinkEvent;
 use tox_time::{Micros, StreamPosition};
 
-/// Whether a line may come next, behind what was heard: readings never fall, positions stay within 2^40, and nothing comes behind
-/// the source's end.
+/// Whether a line may come next, behind what was heard, to which it is then added: readings never fall, positions stay within 2^40, and
+/// neither a piece nor an end comes behind the source's end.
 pub(crate) fn comes_next(heard: &mut StreamPosition, line: &LogLine) -> bool
     ensures goes { IsTrue result → GoesOnWith heard.old line.now heard.new }
     ensures takes { ComesNext heard.old line.now → IsTrue result }

@@ -184,7 +184,7 @@ fn print_at<W: Sink>(printer: &mut Printer<'_, W>, at: &Option<Micros>) -> Resul
     }
 }
 
-/// From how many milliseconds on an operation lets chunks pass. 0 if it never stops.
+/// The `until` of an operation in milliseconds, 0 if it never stops.
 fn until_of(op: &Op) -> u32
     ensures { result ≡ op_until op.now }
 {
@@ -196,7 +196,7 @@ fn until_of(op: &Op) -> u32
     }
 }
 
-/// Before how many milliseconds an operation lets chunks pass. 0 if it begins at once.
+/// The `from` of an operation in milliseconds, 0 if it begins at once.
 fn from_of(op: &Op) -> u32
     ensures { result ≡ op_from op.now }
 {

@@ -42,7 +42,7 @@ pub(crate) fn from_values(values: &[u64]) -> Toxic
     }
 }
 
-/// The operation. A mute drops all data, so nothing looks at a chunk, and it gives its ending for any other.
+/// The operation: a mute, which drops all data and gives its own ending for any other. With `from` or `after` it is a halt.
 pub(crate) fn op(timeout: u32, from: u32, after: u64) -> Op
     ensures { result ≡ timeout_op timeout from after }
 {

@@ -34,6 +34,10 @@ pub struct PolledLink {
 
 impl PolledLink {
     /// A direction under a plan, at which nothing has arrived. It keeps its words.
+    ///
+    /// # Errors
+    ///
+    /// Out of memory.
     pub fn new(alloc: Global, plan: Plan, words: Words) -> Result<PolledLink, AllocError>
         ensures meaning { IfOk result (λ link. MeansPlan plan words link.core) }
         ensures fresh { IfOk result IsNew }
@@ -51,6 +55,10 @@ impl PolledLink {
     }
 
     /// A direction under a plan that draws no words, at which nothing has arrived. It keeps none but a table of one word.
+    ///
+    /// # Errors
+    ///
+    /// Out of memory.
     pub fn without_words(alloc: Global, plan: Plan) -> Result<PolledLink, AllocError>
         requires { plan_draws plan.ops ≡ false }
         ensures meaning { IfOk result (λ link. (words : List ℕ) → MeansPlan plan words link.core) }
@@ -66,7 +74,7 @@ impl PolledLink {
         PolledLink::new(alloc, plan, words)
     }
 
-    /// Whether nothing more is read: the source has ended.
+    /// Whether nothing more is read: the source has ended, or memory was refused to a read or its note.
     pub fn has_read_all(&self) -> bool
         ensures { result ≡ self.now.ended }
     {

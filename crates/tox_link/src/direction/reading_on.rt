@@ -94,9 +94,9 @@ pub(crate) fn end_source<C: Clock, N: Notes>(
     Ok(())
 }
 
-/// Keeps the first piece of bytes that were read, and returns how many bytes are done with then: at most 16,384. All of them are
-/// where the ending is known, since they are dropped, and where they are too many, since they end the source. Without memory for the
-/// piece, or for a note, nothing more is read.
+/// Keeps the first piece of some bytes that were read, and returns how many bytes are done with: those of the piece, at most 16,384.
+/// Where the ending is known all are dropped, and where they are too many they end the source: then all are done with. Without memory
+/// for the piece, or for a note, nothing more is read.
 fn keep_next<C: Clock, N: Notes>(
     link: &mut PolledLink,
     alloc: Global,

@@ -51,6 +51,10 @@ impl<'w> Model for DirectionCore<'w> {
 
 impl<'w> DirectionCore<'w> {
     /// A core of the plan. Nothing has arrived yet, and its last instant is 0.
+    ///
+    /// # Errors
+    ///
+    /// Out of memory.
     pub fn new(alloc: Global, plan: Plan, words: &'w Words) -> Result<DirectionCore<'w>, AllocError>
         ensures begins { IfOk result (Begins plan words.now) }
         ensures room { IfOk result (λ core. core.room ≡ room_of plan.ops) }
@@ -62,6 +66,10 @@ impl<'w> DirectionCore<'w> {
     }
 
     /// A core of the plan that keeps its words, if the plan has operations. Nothing has arrived yet, and its last instant is 0.
+    ///
+    /// # Errors
+    ///
+    /// Out of memory.
     pub fn owning(alloc: Global, plan: Plan, words: Words) -> Result<DirectionCore<'w>, AllocError>
         ensures begins { IfOk result (Begins plan words) }
         ensures room { IfOk result (λ core. core.room ≡ room_of plan.ops) }
