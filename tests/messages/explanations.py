@@ -80,6 +80,27 @@ def explains_on_a_terminal(program, folder):
         assert found == wanted, (asked, found)
 
 
+def explains_lines_to_their_end(program, folder):
+    """What is wrong in a line is looked for in all of it, also where its bytes are no text."""
+    for line, wanted in (
+        (b"\xff", "its bytes aren't UTF-8"),
+        (b"1 data " + b"00" * 5_000 + b"\r", "a carriage return stands at its end"),
+        (b"1 data " + b"0" * 10_001, "each byte has two hexadecimal digits, and one is missing"),
+    ):
+        ran = subprocess.run([program, "dry", "--explain", "latency"], input=line + b"\n", capture_output=True, timeout=PATIENCE, cwd=folder, check=False)
+        assert ran.stderr.decode().endswith(f"  {wanted}\n"), (line[:20], ran.stderr[-200:])
+
+
+def explains_what_the_system_refused(program, folder):
+    """A stream that there isn't is no fault of the file that isn't there either. A byte order mark can't be seen."""
+    found = said(program, ["pick", "--config", "none", "--script", "none", "--proxy", "shop", "--conn", "1", "--seed", "1", "--stream", "up"], "1", folder)
+    assert found.startswith("toxi: P5 ") and "No such file" not in found, found
+    with open(os.path.join(folder, "proxies.json"), "w", encoding="utf-8-sig") as file:
+        file.write("[]")
+    found = said(program, ["check", "--config", "proxies.json", "--script", "proxies.json"], "1", folder)
+    assert found.startswith("toxi: C1 ") and "  a byte order mark, which nobody sees, stands at its start\n" in found, found
+
+
 def explains_a_script_by_a_fifo(program, folder):
     """It isn't read again."""
     with open(os.path.join(folder, "proxies.json"), "w", encoding="utf-8") as file:
@@ -94,4 +115,20 @@ def waits_for_no_second_log(program, folder):
     assert found.splitlines()[0] == "toxi: G1 BadLog log 1", found
 
 
-CASES = [explains_where_asked, explains_on_a_terminal, explains_a_script_by_a_fifo, waits_for_no_second_log]
+def shows_no_control_characters(program, folder):
+    """What a command line has that moves a terminal's cursor or turns its text is escaped, in explanations and in what is said of a command line."""
+    for sign in ("\x1b[31m", "\x07", "\u202e"):
+        for arguments in (["plan", f"{sign}latency"], ["plan", f"latency:{sign}=1"], ["plan", f"latency:{sign}"], ["plan", f"--{sign}"], ["help", sign], ["stages", "--cap", sign]):
+            found = said(program, arguments, "1", folder)
+            assert found and sign not in found, (arguments, found)
+
+
+CASES = [
+    shows_no_control_characters,
+    explains_where_asked,
+    explains_lines_to_their_end,
+    explains_what_the_system_refused,
+    explains_on_a_terminal,
+    explains_a_script_by_a_fifo,
+    waits_for_no_second_log,
+]

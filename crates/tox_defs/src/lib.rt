@@ -19,6 +19,7 @@ pub use fault::{ShortFault, TooManyToxics, ToxicFault};
 pub use operations::op::Op;
 pub use operations::op_cursor::{Emission, OpCursor};
 pub use operations::state::State;
+pub use short::pairs::MAX_VALUE_DIGITS;
 pub use short::read_short;
 pub use stage::Stage;
 pub use tox_words::{Drawing, Lanes};

@@ -6,7 +6,7 @@ ghost use Rattle.tox_defs.specs.short.Short.{short_of, pair_values, with_name, w
 ghost use Rattle.tox_defs.specs.Toxic.{IsInRange};
 ghost use Rattle.tox_defs.specs.declared.toxic.Toxic.{Toxic};
 
-mod pairs;
+pub(crate) mod pairs;
 
 use crate::attributes::values::MAX_ATTRIBUTES;
 use crate::chain::MAX_TOXICITY;

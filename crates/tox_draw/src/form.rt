@@ -9,7 +9,7 @@ ghost use Rattle.tox_words.specs.Draw.{draws_of};
 
 use crate::parts::push_word;
 use std::alloc::{AllocError, Global};
-use tox_defs::{Chain, Entry};
+use tox_defs::{Chain, Entry, MAX_TOXICITY};
 use tox_words::{Drawing, Words};
 
 /// The longest form that the heading shows whole.
@@ -17,9 +17,6 @@ const LONGEST: usize = 94;
 
 /// How many characters of a longer one it shows.
 const CUT: usize = 91;
-
-/// The toxicity that every link meets.
-const WHOLE: u64 = 1_000;
 
 /// The short forms of a chain's toxics under these words, in order.
 pub(crate) fn forms_of(
@@ -175,7 +172,7 @@ fn push_pairs(
     for (place, key) in keys.iter().enumerate() {
         mark = push_pair(text, mark, key, values[place], 0)?;
     }
-    push_pair(text, mark, "toxicity", toxicity, WHOLE)?;
+    push_pair(text, mark, "toxicity", toxicity, u64::from(MAX_TOXICITY))?;
     Ok(())
 }
 

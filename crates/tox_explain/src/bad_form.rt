@@ -1,6 +1,8 @@
 //! What is wrong in a text that is no short form of a toxic.
+use crate::quoted::Quoted;
 use crate::unit::{TOXICITY, Unit};
 use std::fmt;
+use tox_defs::MAX_VALUE_DIGITS;
 
 /// The first thing that is wrong in a text.
 #[derive(Clone, Copy)]
@@ -51,7 +53,8 @@ impl<'a> fmt::Display for Mistake<'a> {
             Mistake::NoColon => f.write_str("a colon stands behind the type: type:attribute=value"),
             Mistake::TypeName(name) => write!(
                 f,
-                "`{name}` is no name of a type, which has letters and _ alone"
+                "`{}` is no name of a type, which has letters and _ alone",
+                Quoted(name)
             ),
             Mistake::NothingBehindColon => f.write_str("nothing stands behind the colon"),
             Mistake::StrayComma => f.write_str(
@@ -59,12 +62,14 @@ impl<'a> fmt::Display for Mistake<'a> {
             ),
             Mistake::NoAttribute(value) => write!(
                 f,
-                "the attribute of `{value}` is missing: attribute=value"
+                "the attribute of `{}` is missing: attribute=value",
+                Quoted(value)
             ),
             Mistake::NoValue(key) => write!(f, "`{key}` has no value: {key}=value"),
             Mistake::AttributeName(key) => write!(
                 f,
-                "`{key}` is no name of an attribute, which has letters and _ alone"
+                "`{}` is no name of an attribute, which has letters and _ alone",
+                Quoted(key)
             ),
             Mistake::NoComma => f.write_str("a comma stands between two attributes"),
             Mistake::NotWhole(type_name, key) => display_value(type_name, key, f),
@@ -82,7 +87,11 @@ fn display_value<W: fmt::Write>(
         Some(unit) => unit.words(),
         None => "whole numbers",
     };
-    write!(f, "{key} is in {words}: 1 to 18 digits and nothing else")
+    write!(
+        f,
+        "{key} is in {words}: 1 to {} digits and nothing else",
+        MAX_VALUE_DIGITS
+    )
 }
 
 /// The first thing that is wrong. None if the text is a short form as far as its letters and signs go.
@@ -152,7 +161,7 @@ fn is_name(text: &str) -> bool {
             .all(|byte| byte == b'_' || byte.is_ascii_lowercase())
 }
 
-/// Whether a text is 1 to 18 digits.
+/// Whether a text has only digits, and no more than a value has.
 fn is_whole(text: &str) -> bool {
-    text.len() <= 18 && text.bytes().all(|byte| byte.is_ascii_digit())
+    text.len() <= MAX_VALUE_DIGITS && text.bytes().all(|byte| byte.is_ascii_digit())
 }

@@ -20,11 +20,19 @@ pub(crate) fn explain_name(
         "P5" => add_stream(text, alloc, inputs)?,
         _ => {}
     }
-    if let Some(reason) = inputs.reason {
-        let reason = Quoted(reason);
-        write!(text, "  {reason}\n")?;
+    match inputs.reason {
+        Some(reason) if is_of_system(fault.code) => {
+            let reason = Quoted(reason);
+            write!(text, "  {reason}\n")?;
+        }
+        _ => {}
     }
     Ok(Rest::Words)
+}
+
+/// Whether it is the system that refused what is named. It knows nothing of a proxy's or a stream's name.
+fn is_of_system(code: &str) -> bool {
+    code != "P3" && code != "P5"
 }
 
 /// Adds the proxies that there are.

@@ -68,7 +68,7 @@ fn shared_value_name(attribute: &str) -> Option<&'static str> {
 
 /// The name of an attribute's values in a line of help, which has `attribute=NAME`.
 fn value_in(line: &'static str, attribute: &str) -> Option<&'static str> {
-    line.split([' ', ','])
+    line.split([' ', ',', ':'])
         .find_map(|word| match word.split_once('=') {
             Some((key, value)) if key == attribute => Some(value),
             _ => None,

@@ -4,12 +4,10 @@ use crate::fault_line::FaultLine;
 use crate::inputs::Inputs;
 use crate::text_place::add_line;
 use std::alloc::AllocError;
-use tox_time::{HORIZON, parse_decimal};
+use tox_text::instant_of;
 
-/// How many bytes of a line are looked at.
+/// How many bytes of a line are shown at most, before it is quoted.
 const MAX_LINE: usize = 4_096;
-/// The most digits of an instant.
-const MAX_DIGITS: usize = 16;
 
 /// Adds the line, and what is wrong in it as far as its signs tell.
 pub(crate) fn explain_line(
@@ -20,9 +18,12 @@ pub(crate) fn explain_line(
     let Some((name, number, line)) = line_at(fault, inputs) else {
         return Ok(Rest::Words);
     };
-    add_line(text, name, number, line)?;
+    add_line(text, name, number, valid_front(line))?;
     if fault.code == "L1" {
-        let why = trouble_in(line);
+        let why = match str::from_utf8(line) {
+            Ok(line) => trouble_in(line),
+            Err(_) => "its bytes aren't UTF-8",
+        };
         write!(text, "  {why}\n")?;
         return Ok(Rest::Nothing);
     }
@@ -30,19 +31,19 @@ pub(crate) fn explain_line(
 }
 
 /// The line that a fault is about, with the name of its text and its number.
-fn line_at<'a>(fault: &FaultLine<'_>, inputs: &Inputs<'a>) -> Option<(&'a str, usize, &'a str)> {
+fn line_at<'a>(fault: &FaultLine<'_>, inputs: &Inputs<'a>) -> Option<(&'a str, usize, &'a [u8])> {
     let lines = inputs.lines?;
     let number: usize = fault.last_word().parse().ok()?;
     let line = lines
         .bytes
         .split(|byte| *byte == b'\n')
         .nth(number.checked_sub(1)?)?;
-    let shown = line.get(..MAX_LINE).unwrap_or(line);
-    Some((lines.name, number, valid_front(shown)))
+    Some((lines.name, number, line))
 }
 
-/// The bytes of a line up to the first that is no UTF-8.
-fn valid_front(bytes: &[u8]) -> &str {
+/// The bytes of a line up to the first that is no UTF-8, as many as may be shown.
+fn valid_front(line: &[u8]) -> &str {
+    let bytes = line.get(..MAX_LINE).unwrap_or(line);
     match str::from_utf8(bytes) {
         Ok(text) => text,
         Err(error) => str::from_utf8(bytes.get(..error.valid_up_to()).unwrap_or(&[])).unwrap_or(""),
@@ -64,7 +65,7 @@ fn trouble_in(line: &str) -> &'static str {
         return "parts are separated by one space, and none stands before or behind them";
     }
     let (instant, event) = line.split_once(' ').unwrap_or((line, ""));
-    if !is_instant(instant) {
+    if instant_of(instant.as_bytes()).is_none() {
         return "it begins with an instant: whole microseconds, 0 to 10^15";
     }
     match event.strip_prefix("data ") {
@@ -76,9 +77,4 @@ fn trouble_in(line: &str) -> &'static str {
         None if event == "data" => "the bytes are missing behind `data`",
         None => "behind the instant stands `data` with bytes, or `eof`",
     }
-}
-
-/// Whether a text is an instant.
-fn is_instant(text: &str) -> bool {
-    parse_decimal(text, MAX_DIGITS, HORIZON).is_some()
 }

@@ -62,6 +62,9 @@ fn add_not_json(
     let line = source.lines().nth(number.saturating_sub(1)).unwrap_or("");
     write!(text, "  {name}:{number}:{column}")?;
     add_shown(text, line.trim())?;
+    if source.starts_with('\u{feff}') {
+        return text.push_str("  a byte order mark, which nobody sees, stands at its start\n");
+    }
     let why = format!(in alloc; "{error}")?;
     // The reader's words end with the place.
     let (why, _) = why

@@ -35,7 +35,7 @@ pub(crate) fn explain_script(
     let Some(subject) = Subject::of(fault, &document) else {
         return Ok(Rest::Words);
     };
-    add_subject_line(text, script.name, source, &document, &subject)?;
+    add_subject_line(text, script.name, source, &document, fault, &subject)?;
     add_advice(text, alloc, fault, &subject)
 }
 
@@ -76,17 +76,22 @@ fn add_subject_line(
     name: &str,
     source: &str,
     document: &Value,
+    fault: &FaultLine<'_>,
     subject: &Subject<'_>,
 ) -> Result<(), AllocError> {
-    let Some(line) = line_of(
-        source,
-        document,
-        subject.number,
-        &[subject.key, "attributes"],
-    ) else {
+    let fields = fields_of(fault.code, subject.key);
+    let Some(line) = line_of(source, document, subject.number, &fields) else {
         return Ok(());
     };
     add_line(text, name, line.number, line.text)
+}
+
+/// The fields by which the line of a fault is found: its key, and that of the table of attributes, which an attribute may stand in.
+fn fields_of<'a>(code: &str, key: &'a str) -> [&'a str; 2] {
+    match code {
+        "S4" | "S5" | "S6" => [key, "attributes"],
+        _ => [key, key],
+    }
 }
 
 /// Adds what is accepted there.
@@ -209,11 +214,11 @@ fn add_meant(
     }
 }
 
-/// A value as a person reads it: a text without its quotes.
+/// A value as a person reads it: a text without its quotes, and a number with a point if it has one.
 fn written_value(alloc: Global, value: &Value) -> Result<String, AllocError> {
     match value {
         Value::String(text) => text.clone(),
-        Value::Float(number) => format!(in alloc; "{number}"),
+        Value::Float(number) => format!(in alloc; "{number:?}"),
         Value::Integer(number) => format!(in alloc; "{number}"),
         _ => Ok(String::new(alloc)),
     }

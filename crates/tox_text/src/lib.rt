@@ -16,7 +16,7 @@ mod printer;
 mod result_line;
 mod short_form;
 
-pub use arrivals::arrivals_line::{Event, Line, line_of};
+pub use arrivals::arrivals_line::{Event, Line, instant_of, line_of};
 pub use arrivals::check::check_arrivals;
 pub use arrivals::hex_pairs::decode_into;
 pub use arrivals::list::list_arrivals;

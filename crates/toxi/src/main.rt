@@ -53,6 +53,7 @@ use std::thread::Threads;
 use std::time::Clock;
 use std::{env, io};
 use tox_arguments::Task;
+use tox_proxy::VisibleName;
 
 /// The status of a command line that is refused.
 const WRONG_ARGUMENTS: u8 = 2;
@@ -143,15 +144,26 @@ fn fail<F: Display>(rt: &impl Eprint, fault: &F) -> ExitCode {
 }
 
 /// Prints what `clap` answers in place of a task: help, the version, or what is wrong with the command line.
-fn refuse<R: Print + Eprint>(rt: &R, refusal: &Error) -> ExitCode {
+fn refuse<R: Print + Eprint + AllocGlobal>(rt: &R, refusal: &Error) -> ExitCode {
     if refusal.kind() == ErrorKind::OutOfMemory {
         return fail(rt, &"L0 OutOfMemory");
     }
+    if refusal.use_stderr() {
+        print_mistake(rt, refusal);
+        return ExitCode::from(refusal.exit_code() as u8);
+    }
     match refusal.print(rt) {
-        Err(error) if !refusal.use_stderr() && !lacks_reader(&error) => {
-            fail(rt, &"L4 WriteFault")
-        }
-        // If what is wrong can't be printed, only the status tells of it.
+        Err(error) if !lacks_reader(&error) => fail(rt, &"L4 WriteFault"),
         _ => ExitCode::from(refusal.exit_code() as u8),
+    }
+}
+
+/// Prints what is wrong with the command line, whose control characters are escaped. If that fails, the status alone tells of it.
+fn print_mistake<R: Eprint + AllocGlobal>(rt: &R, mistake: &Error) {
+    let Ok(text) = format!(in rt.alloc(); "{mistake}") else {
+        return;
+    };
+    for line in text.lines() {
+        let _ = eprintln!(rt; "{}", VisibleName(line));
     }
 }

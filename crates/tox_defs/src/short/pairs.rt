@@ -8,7 +8,7 @@ use crate::toxic::Toxic;
 use tox_time::parse_decimal;
 
 /// The most digits of a value.
-const MAX_DIGITS: usize = 18;
+pub const MAX_VALUE_DIGITS: usize = 18;
 
 /// Whether a text is one or more of `a` to `z` and `_`.
 pub(super) fn is_word(text: &str) -> bool
@@ -60,7 +60,7 @@ fn cut(pair: &str) -> (&str, &str)
 fn pair_number(text: &str) -> Option<u64>
     ensures { result ≡ pair_number text.now }
 {
-    parse_decimal(text, MAX_DIGITS, u64::MAX)
+    parse_decimal(text, MAX_VALUE_DIGITS, u64::MAX)
 }
 
 /// Whether a key is given twice or more.

@@ -61,8 +61,9 @@ fn place_of(text: &[u8], separator: u8) -> Option<usize>
     text.iter().position(|byte| *byte == separator)
 }
 
-/// The instant that a text writes. The value of so few digits fits 64 bits.
-fn instant_of(text: &[u8]) -> Option<Micros>
+/// The instant that a text writes as an arrivals text does: 1 to 16 decimal digits, of value at most 10^15. The value of so few digits
+/// fits 64 bits.
+pub fn instant_of(text: &[u8]) -> Option<Micros>
     ensures { result ≡ instant_of text.now }
 {
     if text.is_empty() || text.len() > MAX_DIGITS {
