@@ -7,23 +7,33 @@ is_current() {
     [ "$(sed -n 's/^program //p' "$release/README.md" 2>/dev/null)" = "$(sum_of_program)" ]
 }
 
-# keep_released: sets `program` to it. Fails where there is none, or where its archive isn't what was released.
+# has_archive: whether there is one, by its sum. Sets `summed` to its line in SHA256SUMS, and `archive` to its name.
+has_archive() {
+    summed="$(grep -s '\.tar\.gz$' "$release/SHA256SUMS")" && archive="${summed#*  }"
+}
+
+# is_released: whether the archive is what was released.
+is_released() {
+    (cd "$release" && echo "$summed" | sha256sum --check --status 2>/dev/null)
+}
+
+# keep_released: sets `program` to it. Fails where there is none, and tells why where there is an archive.
 keep_released() {
-    summed="$(grep -s '\.tar\.gz$' "$release/SHA256SUMS")" || return
-    archive="${summed#*  }"
+    has_archive || return
     set -- "$root/out/released" "${XDG_CACHE_HOME:-${HOME-}/.cache}/toxi"
     for folder do
         program="$folder/toxi-${summed%% *}"
         [ ! -x "$program" ] || return 0
     done
-    if ! (cd "$release" && echo "$summed" | sha256sum --check --status 2>/dev/null); then
+    if ! is_released; then
         echo "toxi: dist/$archive isn't what was released: its sum isn't that of SHA256SUMS" >&2
         return 1
     fi
     for folder do
         program="$folder/toxi-${summed%% *}"
-        ! (unpack "$folder") 2>/dev/null || return 0
+        said="$(unpack "$folder" 2>&1)" && return 0
     done
+    echo "toxi: dist/$archive can't be unpacked into $1 or $2: $(echo "$said" | sed '/./!d; q')" >&2
     return 1
 }
 
