@@ -7,7 +7,7 @@ import weakref
 from dataclasses import dataclass
 from typing import Any, Awaitable, Callable, Coroutine, Generator, List, Optional, Sequence, TypeVar
 
-from .commands import ERRORS, Answer
+from .commands import ERRORS, Answer, unstartable
 from .process import STOP_LIMIT, signals_blocked, tied_to_parent
 from .program import environment
 
@@ -131,8 +131,11 @@ class _SignalsBlocked(Awaitable[Child]):
 
 
 async def async_answer_of(command: Sequence[str], given: str = "", timeout: Optional[float] = None) -> Answer:
-    """Runs a command with a text on standard input. Raises `TimeoutError` after `timeout` seconds."""
-    child = await _start(command, subprocess.PIPE)
+    """As `answer_of`."""
+    try:
+        child = await _start(command, subprocess.PIPE)
+    except OSError as error:
+        raise unstartable(command, error) from None
     try:
         printed, said = await asyncio.wait_for(child.communicate(given.encode(errors=ERRORS)), timeout)
     except asyncio.TimeoutError:

@@ -13,6 +13,7 @@ from .picks import PickedToxic, picked
 from .process import STOP_LIMIT
 from .rules import Rule
 from .runs import Run, names_of, written_page
+from .seconds import seconds
 
 
 class AsyncToxi(ToxiBase):
@@ -74,7 +75,7 @@ class AsyncToxi(ToxiBase):
 
     async def wait_for_link(self, proxy: str, number: int, timeout: float = 5) -> Link:
         """Waits until the connection of this number, from 1, has ended, for at most `timeout` seconds. Raises as `Toxi.wait_for_link`."""
-        await self._running().wait_until(lambda: self._found_link(proxy, number) is not None, timeout)
+        await self._running().wait_until(lambda: self._found_link(proxy, number) is not None, seconds("timeout", timeout))
         link = self._found_link(proxy, number)
         if link is None:
             raise self._no_link(proxy, number, timeout, self._running().writes)
@@ -83,7 +84,7 @@ class AsyncToxi(ToxiBase):
     async def wait(self, timeout: float = 10) -> List[Total]:
         """Waits until the program ends by itself, which it does with `links`, for at most `timeout` seconds. Returns its totals."""
         try:
-            await self._running().wait(timeout)
+            await self._running().wait(seconds("timeout", timeout))
         except asyncio.TimeoutError:
             raise self._no_end(timeout) from None
         return self.totals()

@@ -14,6 +14,8 @@ from .program import found_program, startable
 from .proxies import Proxies, enabled_by_name, enabled_names, listening_at, populate_text
 from .rules import Rule
 from .runs import Position, Run
+from .seconds import seconds
+from .seeds import checked_seed
 
 StrPath = Union[str, "os.PathLike[str]"]
 STREAMS: Tuple[str, str] = ("upstream", "downstream")
@@ -42,11 +44,11 @@ class ToxiBase:
     ) -> None:
         self._populate = populate_text(proxies)
         self._rules = kept_rules(rules)
-        self._seed = seed
+        self._seed = checked_seed(seed)
         self._program = program
         self._directory = None if directory is None else Path(directory)
         self._own_directory: Optional["tempfile.TemporaryDirectory[str]"] = None
-        self._start_timeout = start_timeout
+        self._start_timeout = seconds("start_timeout", start_timeout)
         self._log = None if log is None else Path(log)
         numbers = (("--links", links), ("--workers", workers), ("--connect-timeout", connect_timeout))
         self._options = [word for option, value in numbers if value is not None for word in (option, str(value))]
@@ -169,7 +171,7 @@ class ToxiBase:
             self._directory = Path(self._own_directory.name)
         number = len(self._runs) + 1
         populate = listening_at(self._populate, self._addresses)
-        run = Run(number, program, populate, given, self._seed if seed is None else seed, self._directory, self._log, self._options)
+        run = Run(number, program, populate, given, self._seed if seed is None else checked_seed(seed), self._directory, self._log, self._options)
         run.write_files()
         return run
 

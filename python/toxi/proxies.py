@@ -20,12 +20,18 @@ Proxies = Union[str, Mapping[str, str], Iterable[Proxy]]
 
 
 def populate_text(proxies: Proxies) -> str:
-    """The populate file of proxies, of a mapping from names to upstreams, or of a file's own text."""
+    """The populate file of proxies, of a mapping from names to upstreams, or of a file's own text. Raises `TypeError` for anything else."""
+    if not isinstance(proxies, (str, Iterable)):
+        raise TypeError(f"proxies are a mapping from names to upstreams, a list of Proxy, or the text of a populate file, not {proxies!r}")
     if isinstance(proxies, str):
         return proxies
     if isinstance(proxies, Mapping):
         proxies = [Proxy(name, upstream) for name, upstream in proxies.items()]
-    return json.dumps([asdict(proxy) for proxy in proxies], ensure_ascii=False, indent=1) + "\n"
+    kept = list(proxies)
+    for proxy in kept:
+        if not isinstance(proxy, Proxy):
+            raise TypeError(f"{proxy!r} is no Proxy: Proxy('shop', '127.0.0.1:8080')")
+    return json.dumps([asdict(proxy) for proxy in kept], ensure_ascii=False, indent=1) + "\n"
 
 
 def enabled_by_name(populate: str) -> Dict[str, bool]:

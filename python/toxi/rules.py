@@ -2,7 +2,7 @@
 import json
 import math
 from dataclasses import dataclass
-from typing import Iterable, List, Optional, Tuple
+from typing import Iterable, List, Optional, Tuple, Union
 
 from .reprs import repr_without_defaults
 from .toxics import Toxic, Toxicity
@@ -38,9 +38,9 @@ def script_text(rules: Iterable[Rule]) -> str:
     """The script with these rules, in their order. Its chains have 32 lanes."""
     lines = ["version = 2"]
     for rule in rules:
-        lines += ["", "[[rule]]", f"proxy = {toml_value(rule.proxy)}", f"first = {toml_value(rule.first)}"]
+        lines += ["", "[[rule]]", _setting(rule, "proxy", rule.proxy), _setting(rule, "first", rule.first)]
         if rule.last is not None:
-            lines.append(f"last = {toml_value(rule.last)}")
+            lines.append(_setting(rule, "last", rule.last))
         for toxic in rule.toxics:
             lines += _toxic_lines(toxic)
     return "\n".join(lines) + "\n"
@@ -49,12 +49,20 @@ def script_text(rules: Iterable[Rule]) -> str:
 def _toxic_lines(toxic: Toxic) -> List[str]:
     lines = ["", "[[rule.toxic]]", f"type = {toml_value(toxic.type)}"]
     if toxic.name is not None:
-        lines.append(f"name = {toml_value(toxic.name)}")
-    lines.append(f"stream = {toml_value(toxic.stream)}")
+        lines.append(_setting(toxic, "name", toxic.name))
+    lines.append(_setting(toxic, "stream", toxic.stream))
     if toxic.toxicity is not None:
-        lines.append(f"toxicity = {toml_value(_toxicity(toxic.toxicity))}")
-    attributes = ", ".join(f"{name} = {toml_value(value)}" for name, value in toxic.attributes().items())
+        lines.append(_setting(toxic, "toxicity", _toxicity(toxic.toxicity)))
+    attributes = ", ".join(_setting(toxic, name, value) for name, value in toxic.attributes().items())
     return [*lines, f"attributes = {{ {attributes} }}"]
+
+
+def _setting(table: Union[Rule, Toxic], key: str, value: object) -> str:
+    """A key of a rule or a toxic with its value."""
+    try:
+        return f"{key} = {toml_value(value)}"
+    except TypeError:
+        raise TypeError(f"{key} of {table!r} is {value!r}, which can't stand in a script") from None
 
 
 def _toxicity(value: Toxicity) -> Toxicity:

@@ -14,6 +14,7 @@ from .picks import PickedToxic, picked
 from .process import STOP_LIMIT, Process
 from .rules import Rule
 from .runs import Position, Run, names_of, written_page
+from .seconds import seconds
 
 
 class Toxi(ToxiBase):
@@ -94,7 +95,7 @@ class Toxi(ToxiBase):
         It holds up its thread: on a loop of asyncio `await asyncio.to_thread(toxi.wait_for_link, ..)`.
         Raises `TimeoutError`, or `ToxiEnded` if it can't come, or `KeyError` for a proxy that isn't there.
         """
-        self._running().wait_until(lambda: self._found_link(proxy, number) is not None, timeout)
+        self._running().wait_until(lambda: self._found_link(proxy, number) is not None, seconds("timeout", timeout))
         link = self._found_link(proxy, number)
         if link is None:
             raise self._no_link(proxy, number, timeout, self._running().writes, _held_loop())
@@ -103,7 +104,7 @@ class Toxi(ToxiBase):
     def wait(self, timeout: float = 10) -> List[Total]:
         """Waits until the program ends by itself, which it does with `links`, for at most `timeout` seconds. Returns its totals."""
         try:
-            self._running().wait(timeout)
+            self._running().wait(seconds("timeout", timeout))
         except subprocess.TimeoutExpired:
             raise self._no_end(timeout) from None
         return self.totals()

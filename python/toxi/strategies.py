@@ -48,7 +48,7 @@ def toxics(
 
     `within` is the client's limit in seconds. A single delay is below a tenth of it or above it, and those that add up over a conversation of 1 KB, or
     of `bytes` where that is more, stay below half of it. With `trickle` a bandwidth or a slicer may take longer than that. `bytes` is also how far into
-    a stream a toxic cuts it or begins. Raises `ValueError` for an unknown stream or kind.
+    a stream a toxic cuts it or begins. Raises `ValueError` for an unknown stream or kind, and for no kind.
     """
     return _toxics(stream, kinds, bytes, Delays(within, max(bytes, CONVERSATION), trickle))
 
@@ -121,6 +121,8 @@ def _toxics(stream: Optional[str], kinds: Optional[Iterable[str]], bytes: int, d
     if stream not in (None, *STREAMS):
         raise ValueError(f"{stream!r} is no stream; there are {', '.join(STREAMS)}")
     chosen = list(DRAWS if kinds is None else kinds)
+    if not chosen:
+        raise ValueError(f"no kind is named; there are {', '.join(DRAWS)}")
     for kind in chosen:
         if kind not in DRAWS:
             raise ValueError(f"{kind!r} is no kind; there are {', '.join(DRAWS)}")

@@ -1,4 +1,6 @@
 """The process of a `Toxi` is ended whatever happens, and a wrong script says where it is wrong. Needs nothing installed."""
+import asyncio
+import math
 import os
 import signal
 import subprocess
@@ -7,7 +9,7 @@ import tempfile
 import time
 import unittest
 
-from toxi import Latency, Link, Proxy, Rule, Slicer, Toxi, ToxiEnded, ToxiError, ToxiFault
+from toxi import AsyncToxi, Latency, Link, Proxy, Rule, Slicer, Toxi, ToxiEnded, ToxiError, ToxiFault
 from toxi.lines import parse
 
 PATIENCE = 20
@@ -116,6 +118,36 @@ class EndingTests(unittest.TestCase):
     def test_no_program(self):
         with self.assertRaisesRegex(ToxiError, "/nowhere/toxi can't be started"):
             Toxi(NOWHERE, program="/nowhere/toxi").start()
+
+    def test_a_program_of_another_machine(self):
+        with tempfile.TemporaryDirectory() as folder:
+            program = os.path.join(folder, "toxi")
+            with open(program, "w") as file:
+                file.write("no program")
+            os.chmod(program, 0o755)
+            with self.assertRaisesRegex(ToxiError, f"^{program} can't be started: Exec format error$"):
+                Toxi(NOWHERE, program=program).start()
+            with self.assertRaisesRegex(ToxiError, f"^{program} can't be started: Exec format error$"):
+                asyncio.run(AsyncToxi(NOWHERE, program=program).start())
+
+    def test_times_are_seconds(self):
+        for wrong in (None, "5", True, math.nan, -1):
+            with self.assertRaisesRegex((TypeError, ValueError), "^start_timeout is a number of seconds, not "):
+                Toxi(NOWHERE, start_timeout=wrong)
+        with Toxi(NOWHERE, start_timeout=math.inf) as toxi:
+            for wrong in (None, "5", math.nan):
+                with self.assertRaisesRegex((TypeError, ValueError), "^timeout is a number of seconds, not "):
+                    toxi.wait_for_link("shop", 1, timeout=wrong)
+                with self.assertRaisesRegex((TypeError, ValueError), "^timeout is a number of seconds, not "):
+                    toxi.wait(timeout=wrong)
+
+    def test_a_seed_is_a_whole_number(self):
+        for wrong in ("5", 1.0, True, -1, 2**64):
+            with self.assertRaisesRegex((TypeError, ValueError), "^seed is a whole number"):
+                Toxi(NOWHERE, seed=wrong)
+        with Toxi(NOWHERE, seed=2**64 - 1) as toxi:
+            with self.assertRaisesRegex(ValueError, "^seed is a whole number"):
+                toxi.restart(seed=-1)
 
 
 class FaultTests(unittest.TestCase):

@@ -33,6 +33,26 @@ class WrittenTests(unittest.TestCase):
             with self.assertRaisesRegex(TypeError, r" is no Rule: Rule\('shop', \[\.\.\]\)$"):
                 Toxi(NOWHERE, wrong)
 
+    def test_proxies_are_a_mapping_or_a_list(self):
+        for wrong in (None, 3, Proxy("shop", "127.0.0.1:1")):
+            with self.assertRaisesRegex(TypeError, "^proxies are a mapping from names to upstreams, a list of Proxy, or the text of a populate file, not "):
+                Toxi(wrong)
+        for wrong in (["shop"], [None], b"[]"):
+            with self.assertRaisesRegex(TypeError, r" is no Proxy: Proxy\('shop', '127\.0\.0\.1:8080'\)$"):
+                Toxi(wrong)
+
+    def test_what_cant_stand_in_a_script_has_its_place(self):
+        for rule, told in (
+            (Rule("shop", [Latency(latency=None)]), "latency of Latency(latency=None) is None, which can't stand in a script"),
+            (Rule("shop", [Timeout(from_=[])]), "from of Timeout(from_=[]) is [], which can't stand in a script"),
+            (Rule("shop", [Latency(stream=None)]), "stream of Latency(stream=None) is None, which can't stand in a script"),
+            (Rule(None), "proxy of Rule(proxy=None) is None, which can't stand in a script"),
+            (Rule("shop", first=b"1"), "first of Rule(proxy='shop', first=b'1') is b'1', which can't stand in a script"),
+        ):
+            with self.assertRaises(TypeError) as caught:
+                script_text([rule])
+            self.assertEqual(str(caught.exception), told)
+
     def test_a_repr_shows_what_was_given(self):
         rule = Rule("shop", [Latency(latency=5, toxicity=0.25)], last=2)
         self.assertEqual(repr(rule), "Rule(proxy='shop', toxics=(Latency(toxicity=0.25, latency=5),), last=2)")

@@ -96,7 +96,7 @@ class StrategiesTests(unittest.TestCase):
         some = drawn(strategies.toxics(stream="upstream", kinds=["latency", "slicer"]), limits)
         self.assertEqual({(toxic.stream, toxic.type) for toxic in some}, {("upstream", "latency"), ("upstream", "slicer")})
         self.assertTrue(all(0 <= seed < 2**64 for seed in drawn(strategies.seeds(), limits)))
-        for wrong in ({"stream": "down"}, {"kinds": ["delay"]}):
+        for wrong in ({"stream": "down"}, {"kinds": ["delay"]}, {"kinds": []}):
             with self.assertRaisesRegex(ValueError, "there are "):
                 strategies.toxics(**wrong)
         for wrong in ({"connections": 0}, {"most_toxics": 33}):

@@ -139,7 +139,7 @@ class WithToxiTests(unittest.TestCase):
         for script, seed, status, told in (
             ("none.toml", "7", 1, "none.toml can't be read"),
             ("p.json", "7", 1, "S1 NotToml"),
-            ("empty.toml", "x", 1, "ended with status 2"),
+            ("empty.toml", "x", 2, "argument SEED: 'x' is no whole number"),
         ):
             ran = self.run_it("true", script=script, seed=seed)
             self.assertEqual(ran.returncode, status)
