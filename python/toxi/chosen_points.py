@@ -9,6 +9,8 @@ from .conversations import StreamBytes
 from .errors import ToxiError
 from .fault_points import DELAYED_PART, ENDINGS, FAULTS, MICROS, SLICE_DELAY, FaultPoint
 
+# The heads of messages end within so many bytes of a stream. Half of the runs that aren't near a boundary are there.
+HEAD = 512
 # A latency is told in milliseconds, here in microseconds.
 MIN_LATENCY = 1000
 
@@ -53,24 +55,32 @@ class Span:
 def chosen_points(
     streams: Iterable[StreamBytes], faults: Sequence[str], *, most: int, every_silence: bool, within: float, seed: int
 ) -> ChosenPoints:
-    """The points of some streams, at most `most`: those near boundaries, and others that are drawn. `within` is the client's limit in seconds.
+    """The points of some streams, at most `most`: those near boundaries, some at the heads of streams, and others that are drawn.
+    `within` is the client's limit in seconds.
 
-    Silences are those near boundaries alone, unless `every_silence`. Raises `ValueError` for a fault of another name.
+    Silences are those near boundaries alone, unless `every_silence`. Raises `ValueError` for a fault of another name, and for none.
     """
+    if not faults:
+        raise ValueError(f"no fault is named; there are {', '.join(FAULTS)}")
     unknown = [fault for fault in faults if fault not in FAULTS]
     if unknown:
         raise ValueError(f"no fault {unknown[0]!r}; there are {', '.join(FAULTS)}")
     spans = [_span(stream, fault, within) for stream in streams for fault in dict.fromkeys(faults)]
     whole = [span for span in spans if span.fault != "silent" or every_silence]
-    far = sum(len(span.offsets) - len(span.near) for span in whole)
     draw = random.Random(seed)
     chosen: List[FaultPoint] = []
     for places in _near_places(spans):
-        room = most - len(chosen)
-        kept = places if len(places) <= room else [places[index] for index in sorted(draw.sample(range(len(places)), room))]
-        chosen += [span.point(offset) for span, offset in kept]
-    chosen += _drawn(whole, min(far, most - len(chosen)), draw)
-    return ChosenPoints(chosen, sum(len(span.near) for span in spans) + far)
+        chosen += _some(places, most - len(chosen), draw)
+    heads = [(span, offset) for span in whole for offset in span.offsets[:HEAD] if offset not in span.near]
+    chosen += _some(heads, (most - len(chosen)) // 2, draw)
+    chosen += _drawn(whole, most - len(chosen), set(chosen), draw)
+    return ChosenPoints(chosen, sum(len(span.offsets if span in whole else span.near) for span in spans))
+
+
+def _some(places: Sequence[Tuple[Span, int]], most: int, draw: random.Random) -> List[FaultPoint]:
+    """The points at some places: all of them, or `most` that are drawn, in order."""
+    kept = places if len(places) <= most else [places[index] for index in sorted(draw.sample(range(len(places)), most))]
+    return [span.point(offset) for span, offset in kept]
 
 
 def _near_places(spans: Sequence[Span]) -> Iterator[List[Tuple[Span, int]]]:
@@ -103,17 +113,15 @@ def _span(stream: StreamBytes, fault: str, within: float) -> Span:
     return Span(stream, fault, offsets, {each for each in boundaries if each in offsets}, {each for each in near if each in offsets}, within)
 
 
-def _drawn(spans: Sequence[Span], count: int, draw: random.Random) -> List[FaultPoint]:
-    """So many points that aren't near a boundary, in order. No list of all offsets is made: a stream may have many."""
+def _drawn(spans: Sequence[Span], most: int, taken: Set[FaultPoint], draw: random.Random) -> List[FaultPoint]:
+    """At most so many points that aren't taken, in order. No list of all offsets is made: a stream may have many."""
     ends = list(itertools.accumulate(len(span.offsets) for span in spans))
     every = range(ends[-1] if ends else 0)
-    near = sum(len(span.near) for span in spans)
     found = []
-    for place in draw.sample(every, min(len(every), count + near)):
+    for place in draw.sample(every, min(len(every), most + len(taken))):
         index = bisect.bisect_right(ends, place)
-        span = spans[index]
         # Counted back from the span's end.
-        offset = span.offsets[place - ends[index]]
-        if offset not in span.near:
-            found.append((place, span.point(offset)))
-    return [point for _, point in sorted(found[:count], key=lambda each: each[0])]
+        point = spans[index].point(spans[index].offsets[place - ends[index]])
+        if point not in taken:
+            found.append((place, point))
+    return [point for _, point in sorted(found[:most], key=lambda each: each[0])]

@@ -8,7 +8,7 @@ NOTHING, FOUND, REFUSED, STOPPED = 0, 1, 2, 130
 def take_signals() -> None:
     """Lets the signals that end a program raise `KeyboardInterrupt`, but for those that are ignored, as under nohup.
 
-    The client's command has a process group of its own, which the terminal's signals don't reach. It is ended where this is raised.
+    The client's command has a session of its own, which the terminal's signals don't reach. It is ended where this is raised.
     """
     for number in (signal.SIGINT, signal.SIGTERM, signal.SIGHUP):
         if signal.getsignal(number) is not signal.SIG_IGN:

@@ -1,13 +1,16 @@
 """A command as a client: it finds its proxies in its environment, and its status is judged."""
+import glob
 import os
 import re
+import shlex
 import shutil
 import signal
 import subprocess
 import threading
 from concurrent.futures import wait
 from dataclasses import dataclass
-from typing import IO, Any, Dict, FrozenSet, Iterable, Sequence, Union
+from pathlib import Path
+from typing import IO, Any, Dict, FrozenSet, Iterable, Mapping, Sequence, Set, Union
 
 from .errors import ToxiError
 from .outcomes import RIGHT, Addresses, Attempt, Judge, Kind, Outcome, Startable, Verdict
@@ -25,7 +28,7 @@ def variable_of(proxy: str) -> str:
     return "TOXI_" + re.sub("[^A-Za-z0-9]", "_", proxy).upper()
 
 
-def variables_of(addresses: Addresses) -> Dict[str, str]:
+def variables_of(addresses: Mapping[str, object]) -> Dict[str, str]:
     """The variables of proxies with their addresses, `host:port`. Raises `ToxiError` where two proxies have one variable."""
     found: Dict[str, str] = {}
     for proxy, address in addresses.items():
@@ -34,6 +37,11 @@ def variables_of(addresses: Addresses) -> Dict[str, str]:
             raise ToxiError(f"two proxies have the variable {variable}")
         found[variable] = str(address)
     return found
+
+
+def direct_command(upstreams: Mapping[str, str], command: Sequence[str]) -> str:
+    """The command of a shell that runs a command at its upstreams, without a proxy."""
+    return " ".join([*(f"{variable}={shlex.quote(upstream)}" for variable, upstream in variables_of(upstreams).items()), shlex.join(command)])
 
 
 @dataclass(frozen=True)
@@ -47,7 +55,7 @@ class ShellClient(Startable):
     output: Output = subprocess.DEVNULL
 
     def start(self, addresses: Addresses) -> Attempt:
-        """Starts the command in a process group of its own. Raises `ToxiError` where it can't be run."""
+        """Starts the command in a session of its own. Raises `ToxiError` where it can't be run."""
         if shutil.which(self.command[0]) is None:
             raise ToxiError(f"{self.command[0]} isn't there, or can't be run")
         return _CommandAttempt(self.command, variables_of(addresses), self.output)
@@ -58,6 +66,7 @@ class _CommandAttempt(Attempt):
 
     def __init__(self, command: Sequence[str], variables: Dict[str, str], output: Output) -> None:
         super().__init__()
+        self._is_ended = False
         self._child = subprocess.Popen(
             [*tied_to_parent(), *command],
             env={**os.environ, **variables},
@@ -69,23 +78,39 @@ class _CommandAttempt(Attempt):
         threading.Thread(target=self._wait, name="toxi command", daemon=True).start()
 
     def _wait(self) -> None:
-        # Not reaped yet, so that no other process can have its number while what it left in its group is ended.
+        # Not reaped yet, so that no other process can have its number while what it left is ended.
         os.waitid(os.P_PID, self._child.pid, os.WEXITED | os.WNOWAIT)
         self._signal(signal.SIGKILL)
         status = self._child.wait()
         self.future.set_result(status if status >= 0 else SIGNALLED - status)
 
     def end(self) -> None:
-        """Ends its process group by SIGTERM, and by SIGKILL if that takes too long."""
+        """Ends the processes of its session by SIGTERM, and by SIGKILL once it has ended, or if that takes too long."""
+        self._is_ended = True
         self._signal(signal.SIGTERM)
         if not wait([self.future], TERM_LIMIT).done:
             self._signal(signal.SIGKILL)
 
     def _signal(self, number: int) -> None:
+        """Sends a signal to its process group. Once it is ended from outside, to the other groups of its session too: `timeout` has one of its own."""
+        for group in {self._child.pid, *(_groups_of(self._child.pid) if self._is_ended else ())}:
+            try:
+                os.killpg(group, number)
+            except ProcessLookupError:
+                pass
+
+
+def _groups_of(session: int) -> Set[int]:
+    """The process groups of a session."""
+    found = set()
+    for stat in glob.glob("/proc/[0-9]*/stat"):
         try:
-            os.killpg(self._child.pid, number)
-        except ProcessLookupError:
-            pass
+            fields = Path(stat).read_bytes().rpartition(b")")[2].split()
+        except (FileNotFoundError, ProcessLookupError):
+            continue
+        if int(fields[3]) == session:
+            found.add(int(fields[2]))
+    return found
 
 
 @dataclass(frozen=True)
@@ -101,11 +126,11 @@ class StatusJudge(Judge):
         return Verdict(Kind.ALLOWED if answer in self.allowed_statuses else Kind.FAILED, f"status {answer}")
 
 
-def status_judge(unfaulted: Sequence[Outcome], allowed_statuses: Iterable[int]) -> StatusJudge:
-    """The judge of a command. Raises `ToxiError` where a run without a fault hung or had a status other than 0."""
+def status_judge(unfaulted: Sequence[Outcome], allowed_statuses: Iterable[int], direct: str) -> StatusJudge:
+    """The judge of a command. Raises `ToxiError` where a run without a fault hung or had a status other than 0. It tells `direct`, the `direct_command`."""
     judge = StatusJudge(lambda status: bool(status == 0), (), frozenset(allowed_statuses))
     for outcome in unfaulted:
         verdict = judge.verdict(outcome)
         if verdict is not RIGHT:
-            raise ToxiError(f"the command doesn't succeed without a fault: {verdict}")
+            raise ToxiError(f"the command doesn't succeed without a fault: {verdict}\nWithout Toxi: {direct}")
     return judge

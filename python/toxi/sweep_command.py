@@ -5,7 +5,7 @@ import subprocess
 import sys
 from argparse import ArgumentTypeError, Namespace
 from pathlib import Path
-from typing import Callable, Optional, Sequence
+from typing import Callable, List, Optional, Sequence
 
 from .batches import ClientSetup
 from .chosen_points import chosen_points, repeated_points
@@ -14,7 +14,8 @@ from .client_command import FOUND, NOTHING, REFUSED, STOPPED, take_signals
 from .errors import ToxiError
 from .fault_points import ENDINGS, FAULTS, FaultPoint
 from .outcomes import Kind
-from .shell_client import ShellClient, status_judge
+from .seeds import seed_argument
+from .shell_client import ShellClient, direct_command, status_judge
 from .sweep_table import Sweep
 from .sweeping import MOST, Sweeping
 from .terminal_line import TerminalLine
@@ -25,8 +26,10 @@ The command finds the address of each proxy in TOXI_<NAME>: the name in upper ca
 --allow-status names one with which it may fail, and all else is to be mended. Its output isn't shown.
 
 The status is 0 where nothing is to be mended, 1 where something is, 2 where the sweep can't be made, and 130 after Ctrl-C. The last line
-is the command that runs the first of what is to be mended again."""
+is the command that runs the first of what is to be mended again, or says that there is nothing."""
 NAME = "toxi-sweep"
+# The options that name files of the table.
+FILES = ("--json", "--page")
 
 
 def read_arguments(words: Sequence[str]) -> Namespace:
@@ -39,7 +42,7 @@ def read_arguments(words: Sequence[str]) -> Namespace:
     about = "silence behind each byte, not only at the boundaries of what arrives and one byte beside them"
     parser.add_argument("--every-silence", action="store_true", help=about)
     parser.add_argument("--before", metavar="COMMAND", help="a shell's command that runs before each run")
-    parser.add_argument("--seed", metavar="N", type=int, default=1, help="the seed of what is drawn (default: %(default)s)")
+    parser.add_argument("--seed", metavar="N", type=seed_argument, default=1, help="the seed of what is drawn (default: %(default)s)")
     about = "run this point alone, such as 'shop 1 downstream 17 closed', and show the command's output. Repeatable"
     parser.add_argument("--only", metavar="POINT", action="append", type=_point, default=[], help=about)
     parser.add_argument("--json", metavar="FILE", type=Path, help="write the table as JSON")
@@ -66,7 +69,10 @@ def sweeping_of(arguments: Namespace) -> Sweeping:
     else:
         given = {"most": arguments.most, "every_silence": arguments.every_silence, "within": arguments.within, "seed": arguments.seed}
         choose = functools.partial(chosen_points, faults=arguments.faults or ENDINGS, **given)
-    return Sweeping(setup, choose, functools.partial(status_judge, allowed_statuses=arguments.allowed_statuses))
+    direct = direct_command(arguments.upstreams, arguments.command)
+    judge_maker = functools.partial(status_judge, allowed_statuses=arguments.allowed_statuses, direct=direct)
+    # A point that is run alone shows its output once.
+    return Sweeping(setup, choose, judge_maker, repeats=not arguments.only)
 
 
 def _before(command: Optional[str]) -> Optional[Callable[[], object]]:
@@ -93,12 +99,27 @@ def write_files(sweep: Sweep, arguments: Namespace) -> None:
             path.write_text(text(), encoding="utf-8", errors="backslashreplace")
 
 
-def again(words: Sequence[str], arguments: Namespace, sweep: Sweep) -> str:
-    """The command that runs the first of what is to be mended, or all where there is nothing."""
-    first = ["--only", str(sweep.failures[0].first.point)] if sweep.failures and not arguments.only else []
+def last_line(words: Sequence[str], arguments: Namespace, sweep: Sweep) -> str:
+    """The command that runs the first of what is to be mended again, or a sentence where there is nothing."""
+    if not sweep.failures:
+        return f"nothing is to be mended in {len(sweep.swept)} runs"
     # From the PYTHONPATH there is no console script.
     program = [NAME] if Path(sys.argv[0]).name == NAME else [sys.executable, "-m", "toxi.sweep_command"]
-    return shlex.join([*program, *first, *words])
+    if arguments.only:
+        return shlex.join([*program, *words])
+    return shlex.join([*program, "--only", str(sweep.failures[0].first.point), *_without_files(words)])
+
+
+def _without_files(words: Sequence[str]) -> List[str]:
+    """The words without the files of the table, which a run of one point would replace."""
+    mark = words.index("--")
+    options, kept = iter(words[:mark]), []
+    for word in options:
+        if word in FILES:
+            next(options)
+        elif word.partition("=")[0] not in FILES:
+            kept.append(word)
+    return [*kept, *words[mark:]]
 
 
 def run(words: Sequence[str]) -> int:
@@ -113,7 +134,7 @@ def run(words: Sequence[str]) -> int:
         line.end()
     sweep = sweeping.sweep
     write_files(sweep, arguments)
-    print(sweep, again(words, arguments, sweep), sep="\n")
+    print(sweep, last_line(words, arguments, sweep), sep="\n")
     if interrupted:
         return STOPPED
     return FOUND if sweep.failures else NOTHING

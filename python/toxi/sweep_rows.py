@@ -16,12 +16,21 @@ NOT_REACHED = "not reached"
 
 @dataclass(frozen=True)
 class SweptPoint:
-    """A point that was run, its verdict, and whether its link came as far as the point. `detail` is a wrong answer, or an exception's text."""
+    """A point that was run, its verdict, and whether its link came as far as the point. `detail` is a wrong answer, or an exception's text.
+
+    `other_runs` counts the runs in which a failure was looked for again and didn't come.
+    """
 
     point: FaultPoint
     verdict: Verdict
     reached: bool
     detail: str = ""
+    other_runs: int = 0
+
+    @property
+    def fails(self) -> bool:
+        """Whether the client is to be mended: not for what came once by chance."""
+        return self.verdict.is_fault and not self.other_runs
 
     @property
     def outcome(self) -> str:
@@ -31,7 +40,7 @@ class SweptPoint:
     @property
     def _row_key(self) -> Tuple[object, ...]:
         """What neighbours of one row have in common. Where the point wasn't reached, it isn't told which exception was allowed."""
-        return (*self.point.key, self.point.fault, self.outcome, self.verdict.is_fault, self.reached)
+        return (*self.point.key, self.point.fault, self.outcome, self.verdict.is_fault, self.reached, self.other_runs)
 
 
 @dataclass(frozen=True, repr=False)
@@ -78,7 +87,7 @@ class SweepRow:
     @property
     def fails(self) -> bool:
         """Whether the client is to be mended."""
-        return self.first.verdict.is_fault
+        return self.first.fails
 
     @property
     def rule(self) -> Rule:
@@ -92,10 +101,11 @@ class SweepRow:
 
     @property
     def notes(self) -> str:
-        """What else is to be said: that not all offsets were run, or that the client failed before its link came so far."""
+        """What else is to be said: that not all offsets were run, that the client failed before its link came so far, or that it failed once."""
         every = 1 if self.fault == "slow" else self.last_offset - self.offset + 1
-        partly = f", {self.runs} of {every} run" if self.runs < every else ""
-        return partly + (f", {NOT_REACHED}" if self.fails and not self.first.reached else "")
+        partly = f", {self.runs} of {every} offsets run" if self.runs < every else ""
+        early = f", {NOT_REACHED}" if self.first.verdict.is_fault and not self.first.reached else ""
+        return partly + early + (f", but not in {self.first.other_runs} more runs" if self.first.other_runs else "")
 
     def __str__(self) -> str:
         return f"{self.stream} {self.offsets} {self.fault}: {self.outcome}{self.notes}"

@@ -5,6 +5,7 @@ import textwrap
 import threading
 import time
 from collections import Counter, deque
+from dataclasses import replace
 from typing import Callable, Deque, Dict, List, Mapping, Optional, Sequence, Union
 
 from .base import StrPath
@@ -23,6 +24,8 @@ Progress = Callable[["Sweeping"], object]
 MOST = 2000
 # Runs without a fault: two, since an answer that changes by itself can't be compared.
 UNFAULTED = 2
+# A failure without a failing neighbour may come by chance. It is looked for again in at most so many runs.
+MORE_RUNS = 3
 # Characters of an exception's text.
 MAX_DETAIL = 200
 
@@ -55,9 +58,11 @@ def sweep_faults(
     `jobs` clients run at once. `before` is called before each run, by the thread of the run.
 
     `program`, `workers` and `connect_timeout` (milliseconds) are the options of `Toxi`. Raises `ToxiError` where the client hangs or fails without a
-    fault, or its answers differ and there is no `check`, and `ValueError` for a fault of another name.
+    fault, or its answers differ and there is no `check`, and `ValueError` for a fault of another name, and for no fault, run or job.
     """
     __tracebackhide__ = True
+    if most < 1 or jobs < 1:
+        raise ValueError(f"a sweep has at least one run and one job, not most={most!r} and jobs={jobs!r}")
     options = {"seed": seed, "program": program, "workers": workers, "connect_timeout": connect_timeout}
     setup = ClientSetup(upstreams, client, within, before, jobs, options)
     choose = functools.partial(chosen_points, faults=faults, most=most, every_silence=every_silence, within=within, seed=seed)
@@ -69,11 +74,14 @@ def sweep_faults(
 class Sweeping:
     """A sweep that runs. `sweep` is what it has so far.
 
-    `choose` gives the points of the streams that a client has without a fault, and `judge_maker` the judge of its outcomes there.
+    `choose` gives the points of the streams that a client has without a fault, and `judge_maker` the judge of its outcomes there. Where it `repeats`, single
+    failures are run again at the end.
     """
 
-    def __init__(self, setup: ClientSetup, choose: Callable[[Sequence[StreamBytes]], ChosenPoints], judge_maker: JudgeMaker) -> None:
-        self._setup, self._choose, self._judge_maker = setup, choose, judge_maker
+    def __init__(
+        self, setup: ClientSetup, choose: Callable[[Sequence[StreamBytes]], ChosenPoints], judge_maker: JudgeMaker, repeats: bool = True
+    ) -> None:
+        self._setup, self._choose, self._judge_maker, self._repeats = setup, choose, judge_maker, repeats
         self._judge: Judge
         self._streams: List[StreamBytes] = []
         self._chosen = ChosenPoints((), 0)
@@ -105,6 +113,8 @@ class Sweeping:
             pass
         if not waiting:
             self._ended = None
+            if self._repeats:
+                self._repeat_single_failures()
 
     def _run_unfaulted(self) -> None:
         """Learns what is right, and what the client's links carry."""
@@ -144,6 +154,33 @@ class Sweeping:
             return True
         self._ended = f"the client didn't return within {GRACE:g} s after its links were broken"
         return False
+
+    def _repeat_single_failures(self) -> None:
+        """Runs each failure without a failing neighbour until it comes again, at most `MORE_RUNS` times."""
+        __tracebackhide__ = True
+        single = {row.first.point: row.first.verdict for row in self.sweep.failures if row.runs == 1}
+        for _ in range(MORE_RUNS):
+            verdicts = self._verdicts_again(list(single))
+            single = {point: verdict for point, verdict in single.items() if verdicts.get(point, verdict) != verdict}
+        self._swept = [replace(swept, other_runs=MORE_RUNS) if swept.point in single else swept for swept in self._swept]
+
+    def _verdicts_again(self, points: Sequence[FaultPoint]) -> Dict[FaultPoint, Verdict]:
+        """The verdicts of one more run of each point. Those that a client keeps from being run, since it doesn't return, are missing."""
+        __tracebackhide__ = True
+        waiting = deque(points)
+        verdicts: Dict[FaultPoint, Verdict] = {}
+        while waiting:
+            batch = Batch(self._setup, [waiting.popleft() for _ in range(min(self._setup.batch_size, len(waiting)))])
+            batch.run()
+            for run in batch.runs:
+                assert run.point is not None
+                if run.outcome is None:
+                    waiting.append(run.point)
+                elif not run.outcome.returned:
+                    return verdicts
+                else:
+                    verdicts[run.point] = self._judge.verdict(run.outcome)
+        return verdicts
 
     def _note(self, run: BatchRun) -> None:
         verdict = None if run.point is None else self._verdicts.get(run.point)

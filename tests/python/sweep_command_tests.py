@@ -46,7 +46,7 @@ class SweepCommandTests(unittest.TestCase):
         return subprocess.run(command, cwd=self.folder, capture_output=True, text=True, timeout=LIMIT, check=False)
 
     def test_a_bug_its_files_and_its_last_line(self):
-        ran = self.run_it(self.command("patient_cut_body", "--fault", "closed", "--jobs", "4", "--json", "table.json", "--page", "table.html"))
+        ran = self.run_it(self.command("patient_cut_body", "--fault", "closed", "--jobs", "4", "--json", "table.json", "--page=table.html"))
         lines = ran.stdout.split("\n")[:-1]
         self.assertEqual((ran.returncode, ran.stderr), (1, ""))
         self.assertEqual(lines[0], "shop 1: 6 bytes upstream, 7 downstream")
@@ -58,16 +58,20 @@ class SweepCommandTests(unittest.TestCase):
         xml.dom.minidom.parse(os.path.join(self.folder, "table.html"))
         again = self.run_it(shlex.split(lines[-1]))
         self.assertEqual((again.returncode, again.stdout.split("\n")[2]), (1, "downstream 2 closed: status 1"))
+        # The run of one point leaves the table of the sweep as it is.
+        with open(os.path.join(self.folder, "table.json")) as file:
+            self.assertEqual(json.load(file)["rows"][0]["last_offset"], 6)
 
     def test_a_correct_command(self):
         ran = self.run_it(self.command("correct", "--fault", "closed", "--jobs", "4"))
         self.assertEqual((ran.returncode, ran.stderr), (0, ""))
         self.assertNotIn("wrong", ran.stdout)
+        self.assertEqual(ran.stdout.splitlines()[-1], "nothing is to be mended in 15 runs")
 
     def test_no_time_limit(self):
         ran = self.run_it(self.command("waits", "--fault", "silent", "--jobs", "4", "--within", "2"))
         self.assertEqual(ran.returncode, 1)
-        self.assertIn("downstream 0..6 silent: hang, 3 of 7 run\n", ran.stdout)
+        self.assertIn("downstream 0..6 silent: hang, 3 of 7 offsets run\n", ran.stdout)
         self.assert_nothing_is_left()
 
     def test_ctrl_c_tells_what_there_is_and_leaves_nothing(self):
@@ -100,7 +104,7 @@ class SweepCommandTests(unittest.TestCase):
             sweep.send_signal(signal.SIGHUP)
             printed = sweep.communicate(timeout=LIMIT)[0]
         self.assertEqual(sweep.returncode, 1)
-        self.assertIn("downstream 0..6 silent: hang, 3 of 7 run\n", printed)
+        self.assertIn("downstream 0..6 silent: hang, 3 of 7 offsets run\n", printed)
 
     def assert_nothing_is_left(self):
         """No process of this test's folder lives on: neither a command, nor a `serve`, whose files are in it too."""
@@ -125,7 +129,8 @@ class SweepCommandTests(unittest.TestCase):
     def test_usage(self):
         for command in (SWEEP, [*SWEEP, "--upstream", "shop=x:1"], [*SWEEP, "--upstream", "shop", "--", "true"], [*SWEEP, "--upstream", "shop=x:1", "--fault", "cut", "--", "true"]):
             self.assertEqual(self.run_it(command).returncode, 2)
-        for told, words in (("there", ["/nowhere/command"]), ("status 1", ["false"]), ("makes no connection", ["true"])):
+        self.assertIn("argument --seed: '-1' is no whole number", self.run_it([*SWEEP, "--upstream", "shop=x:1", "--seed", "-1", "--", "true"]).stderr)
+        for told, words in (("there", ["/nowhere/command"]), ("status 1\nWithout Toxi: TOXI_SHOP=", ["false"]), ("makes no connection", ["true"])):
             ran = self.run_it([*SWEEP, "--upstream", f"shop={self.upstream}", "--", *words])
             self.assertEqual((ran.returncode, ran.stdout), (2, ""))
             self.assertRegex(ran.stderr, f"^toxi-sweep: .*{told}")
