@@ -21,6 +21,7 @@ if __name__ == "__main__":
         test_found()
     except (AssertionError, ToxiError) as wrong:
         sys.exit(str(wrong))
+    print("right in {times} of {times} runs under script.toml")
 '''
 MISSING = '''
 
@@ -48,7 +49,7 @@ class CommandSource(ClientSource):
         """As a test of the command."""
         options = f"allowed_statuses={list(self.allowed_statuses)!r}, within={within!r}, times={times}"
         call = f"rerun_command(Path(__file__).parent, {list(self.command)!r}, {options})"
-        return f"{HEAD.format(about=about)}\nfrom toxi import ToxiError, rerun_command\n{TEST.format(call=call)}"
+        return f"{HEAD.format(about=about)}\nfrom toxi import ToxiError, rerun_command\n{TEST.format(call=call, times=times)}"
 
 
 @dataclass(frozen=True)
@@ -71,7 +72,7 @@ class FunctionSource(ClientSource):
         options = [f"{name}={name}" for name in given if name != "client"] + [f"allowed=({allowed})", f"within={within!r}", f"times={times}"]
         call = f"rerun(Path(__file__).parent, client, {', '.join(options)})"
         missing = [MISSING.format(name=name, told=_to_put_in(name, values[name])) for name, source in sources.items() if source is None]
-        return "".join([HEAD.format(about=about), *_imports(sources), *missing, TEST.format(call=call)])
+        return "".join([HEAD.format(about=about), *_imports(sources), *missing, TEST.format(call=call, times=times)])
 
 
 def _named(classes: Sequence[Type[BaseException]]) -> Dict[str, Type[BaseException]]:

@@ -15,9 +15,11 @@ if TYPE_CHECKING:
 
 # How often the smallest fault is run again.
 REPETITIONS = 10
-# A fault counts where the client fails so often in a row, so that what comes by chance isn't shrunk to. A hang takes long, and seldom comes by chance.
+# A fault counts where the client fails so often in a row, so that what comes by chance isn't shrunk to. A hang takes long, and seldom comes by chance:
+# one counts that comes twice, and then each of a smaller fault.
 IN_A_ROW = 3
-# Where no fault does that, one counts that the client fails under at least once in so many runs.
+HANGS_IN_A_ROW = 2
+# Where no fault does that, one counts that the client fails under at least once more in so many runs.
 CHANCES = 5
 # Of the budget, what the repetitions may take.
 REPETITION_SHARE = 1 / 3
@@ -82,7 +84,7 @@ class FaultSearch:
     _error: Optional[Exception] = None
 
     def learn(self, make_judge: MakeJudge) -> Unfaulted:
-        """Runs the client twice without a fault. Raises `ToxiError` where it isn't right, or takes more than half of its limit."""
+        """Runs the client twice without a fault. Raises `ToxiError` where it isn't right, takes more than half of its limit, or makes no connection."""
         __tracebackhide__ = True
         trials = [self.trials.run(), self.trials.run()]
         for trial in trials:
@@ -92,6 +94,8 @@ class FaultSearch:
         if slowest > self.trials.within / 2:
             raise ToxiError(f"the client takes {slowest:.2f} s without a fault, so `within` must be above {2 * slowest:.2f} s")
         links = [link for trial in trials for link in trial.links]
+        if not links:
+            raise ToxiError("the client makes no connection to its proxies")
         connections = max((link.number for link in links), default=1)
         return Unfaulted(connections, max((bytes for link in links for bytes in (link.up, link.down)), default=0))
 
@@ -141,6 +145,7 @@ class FaultSearch:
             trial.discard()
             failed, repeated = failed + (verdict == smallest.verdict), repeated + 1
             self.repetitions = (failed, repeated)
+            self.watch(Progress(self.count, smallest))
             if not trial.outcome.returned:
                 break
         return self.repetitions
@@ -164,7 +169,10 @@ class FaultSearch:
         if fault is None:
             return False
         if not self._by_chance and not self._comes_again(fault):
-            self._flaky = self._smaller(self._flaky, fault)
+            if self._comes_now_and_then(fault):
+                self._flaky = self._smaller(self._flaky, fault)
+            else:
+                fault.trial.discard()
             return False
         self.smallest = self._smaller(self.smallest, fault)
         return True
@@ -192,12 +200,20 @@ class FaultSearch:
 
     def _comes_again(self, fault: Smallest) -> bool:
         """Whether the client fails in the same way each time."""
-        for _ in range(0 if fault.verdict is HANG else IN_A_ROW - 1):
-            again = self._fault(fault.rules, False)
-            if again is None or again.verdict != fault.verdict:
-                return False
-            again.trial.discard()
-        return True
+        in_a_row = IN_A_ROW if fault.verdict is not HANG else HANGS_IN_A_ROW if self.smallest is None else 1
+        return all(self._fails_as(fault) for _ in range(in_a_row - 1))
+
+    def _comes_now_and_then(self, fault: Smallest) -> bool:
+        """Whether the client fails in the same way once more."""
+        return any(self._fails_as(fault) for _ in range(CHANCES))
+
+    def _fails_as(self, fault: Smallest) -> bool:
+        """Whether the client fails in the same way in one more run."""
+        again = self._fault(fault.rules, False)
+        if again is None:
+            return False
+        again.trial.discard()
+        return again.verdict == fault.verdict
 
     def _smaller(self, one: Optional[Smallest], other: Smallest) -> Smallest:
         """The smaller one. The files of the other are removed."""

@@ -14,7 +14,8 @@ from .errors import ToxiError
 from .find_progress import ProgressLine
 from .finding import Faults, SearchLimits, search_fault
 from .found import Found
-from .shell_client import ShellClient, status_judge
+from .seeds import seed_argument
+from .shell_client import ShellClient, direct_command, status_judge
 from .smallness import KINDS
 from .trials import Trials
 
@@ -22,7 +23,7 @@ ABOUT = """Runs a command under drawn faults until one breaks it, shrinks that t
 
 The command finds the address of the proxy before each upstream in TOXI_NAME, as host:port. Without a fault its status must be 0. Under
 a fault 0 is right too, --allow-status names statuses of failures that may be, and every other status and a run past --within is found. Its
-process group is ended then.
+processes are ended then.
 
 The status is 0 where nothing was found, 1 where something was, 2 where the search can't be made, and 130 where it was stopped before."""
 DEFAULT_FOLDER = "toxi-found"
@@ -40,7 +41,7 @@ def main(words: Optional[List[str]] = None) -> int:
     except (ToxiError, ModuleNotFoundError, ValueError, OSError) as error:
         return _told(f"toxi-find: {error}", REFUSED, line)
     if found is None:
-        return _told(f"nothing found by {line.runs} runs in {time.monotonic() - begun:.1f} s", NOTHING, line)
+        return _told(_nothing_found(line, time.monotonic() - begun, arguments), NOTHING, line)
     line.end()
     print(found)
     return FOUND
@@ -52,7 +53,7 @@ def _parser() -> argparse.ArgumentParser:
     parser.add_argument("--connections", metavar="N", type=positive, help="the connections of a proxy that faults are drawn for (default: two more than without a fault)")
     parser.add_argument("--runs", metavar="N", type=positive, default=limits.runs, help="how many faults are drawn (default: %(default)s)")
     parser.add_argument("--budget", metavar="S", type=seconds, default=limits.budget, help="what the search takes at most, in seconds (default: %(default)s)")
-    parser.add_argument("--seed", metavar="N", type=int, default=1, help="the seed of the draws and of the proxies (default: %(default)s)")
+    parser.add_argument("--seed", metavar="N", type=seed_argument, default=1, help="the seed of the draws and of the proxies (default: %(default)s)")
     parser.add_argument("--stream", choices=STREAMS, help="faults of this stream alone")
     parser.add_argument("--kind", dest="kinds", action="append", choices=KINDS, help="toxics of this type alone. Repeatable")
     parser.add_argument("--trickle", action="store_true", default=faults.trickle, help="draws streams that are slower than --within allows, too")
@@ -64,13 +65,22 @@ def _search(arguments: argparse.Namespace, command: List[str], line: ProgressLin
     statuses = arguments.allowed_statuses
     return search_fault(
         Trials(arguments.upstreams, ShellClient(tuple(command)), arguments.within, arguments.seed, program=arguments.program),
-        partial(status_judge, allowed_statuses=statuses),
+        partial(status_judge, allowed_statuses=statuses, direct=direct_command(arguments.upstreams, command)),
         CommandSource(command, statuses),
         Faults(arguments.connections, arguments.stream, arguments.kinds, arguments.trickle),
         SearchLimits(arguments.runs, arguments.budget, stoppable=True),
         _free_folder() if arguments.folder is None else arguments.folder,
         line,
     )
+
+
+def _nothing_found(line: ProgressLine, taken: float, arguments: argparse.Namespace) -> str:
+    """What is told where nothing was found in so many seconds. Fewer runs than were asked for say less of the client."""
+    if line.smallest is not None:
+        return f"nothing found by {line.runs} runs in {taken:.1f} s: {line.smallest.verdict} came, but in no repetition"
+    if line.runs < arguments.runs and taken >= arguments.budget:
+        return f"nothing found by {line.runs} of {arguments.runs} runs: the budget of {arguments.budget:g} s was used up"
+    return f"nothing found by {line.runs} runs in {taken:.1f} s"
 
 
 def _free_folder() -> Path:

@@ -1,7 +1,7 @@
 """The line on a terminal that tells how far a search is."""
-from typing import Sequence, TextIO
+from typing import Optional, Sequence, TextIO
 
-from .fault_search import Progress
+from .fault_search import Progress, Smallest
 from .rules import Rule
 from .terminal_line import TerminalLine
 from .toxics import Toxic
@@ -13,9 +13,10 @@ class ProgressLine(TerminalLine):
     def __init__(self, stream: TextIO) -> None:
         super().__init__(stream)
         self.runs = 0
+        self.smallest: Optional[Smallest] = None
 
     def __call__(self, progress: Progress) -> None:
-        self.runs = progress.runs
+        self.runs, self.smallest = progress.runs, progress.smallest
         told = f"{progress.runs} runs"
         if progress.smallest is not None:
             told += f", {progress.smallest.verdict}: {short_text(progress.smallest.rules)}"

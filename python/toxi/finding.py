@@ -73,7 +73,7 @@ def find_fault(
     workers: Optional[int] = None,
     watch: Optional[Watch] = None,
 ) -> Optional[Found]:
-    """Runs a client under drawn faults until one breaks it, and shrinks that. Returns None where `runs` faults don't.
+    """Runs a client under drawn faults until one breaks it, and shrinks that. Returns None where `runs` faults don't, or none of the repetitions shows it.
 
     `upstreams` maps names to upstreams such as `127.0.0.1:8080`, and `client` is called with a mapping from these names to the addresses of the
     proxies before them. It may be a coroutine function. It is wrong if its answer isn't the one that it gives without a fault, or `check` doesn't return
@@ -84,7 +84,7 @@ def find_fault(
     proxies. They are for the first `connections` of each proxy, by default two more than the client makes without a fault. `stream`, `kinds` and
     `trickle` are those of `strategies.toxics`. What is found is written into `folder`, or into a new one. `watch` is called after each run.
 
-    Raises `ModuleNotFoundError` without Hypothesis, `ToxiError` where the client isn't right without a fault, and what `check` and `before` raise.
+    Raises `ModuleNotFoundError` without Hypothesis, `ToxiError` where the client isn't right without a fault, or makes no connection, and what `check` and `before` raise.
     """
     __tracebackhide__ = True
     source = FunctionSource(client, check, allowed, before)
@@ -105,6 +105,9 @@ def search_fault(
 ) -> Optional[Found]:
     """`find_fault` of any client: a function, or a command."""
     __tracebackhide__ = True
+    # None is to mean that no fault was found, and not that none was tried.
+    if limits.runs < 1 or not limits.budget > 0:
+        raise ValueError(f"a search has at least one run and some seconds, not runs={limits.runs!r} and budget={limits.budget!r}")
     begun = time.monotonic()
     # Before anything runs: Hypothesis may be missing, the faults named wrongly, or the folder used.
     faults.rules(trials.upstreams, trials.within, Unfaulted())
@@ -113,7 +116,7 @@ def search_fault(
     search = FaultSearch(trials, begun + limits.budget, limits.runs, limits.budget, watch or (lambda progress: None))
     try:
         failed, repeated = _searched(search, faults, make_judge, limits)
-        if search.smallest is None:
+        if search.smallest is None or failed == 0:
             return None
         return FoundFolder(folder, search.smallest, source, trials).found(failed, repeated, search.count, time.monotonic() - begun)
     finally:
@@ -128,6 +131,6 @@ def _searched(search: FaultSearch, faults: Faults, make_judge: MakeJudge, limits
         search.search(faults.rules(trials.upstreams, trials.within, search.learn(make_judge)), trials.seed)
         return search.repeat()
     except KeyboardInterrupt:
-        if not limits.stoppable or search.smallest is None:
+        if not limits.stoppable or search.smallest is None or search.repetitions[0] == 0:
             raise
         return search.repetitions

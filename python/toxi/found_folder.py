@@ -84,7 +84,7 @@ class FoundFolder:
 
 
 def _times(failed: int, repeated: int) -> int:
-    """How often a test runs, so that it seldom misses what came in so many of the runs."""
+    """How often a test runs, so that it seldom misses what came in so many of the runs, at least in one."""
     if failed == repeated:
         return 1
-    return min(MOST_TIMES, math.ceil(math.log(MISSED) / math.log(1 - failed / repeated))) if failed else MOST_TIMES
+    return min(MOST_TIMES, math.ceil(math.log(MISSED) / math.log(1 - failed / repeated)))

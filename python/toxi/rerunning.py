@@ -8,7 +8,7 @@ from .base import StrPath
 from .fault_search import MakeJudge
 from .found import detail_of
 from .outcomes import WITHIN, Allowed, Check, Client, judge_of
-from .shell_client import ShellClient, status_judge
+from .shell_client import ShellClient, direct_command, status_judge
 from .trials import Trials
 
 
@@ -37,7 +37,8 @@ def rerun_command(
     """As `rerun`, for a command, whose outputs are ours."""
     __tracebackhide__ = True
     trials = Trials(_upstreams(folder), ShellClient(tuple(command), None), within, _seed(folder))
-    _require_right(trials, partial(status_judge, allowed_statuses=allowed_statuses), Path(folder), times)
+    judge = partial(status_judge, allowed_statuses=allowed_statuses, direct=direct_command(trials.upstreams, command))
+    _require_right(trials, judge, Path(folder), times)
 
 
 def _require_right(trials: Trials, make_judge: MakeJudge, folder: Path, times: int) -> None:

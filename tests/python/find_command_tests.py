@@ -6,18 +6,32 @@ import signal
 import subprocess
 import sys
 import tempfile
+import time
 import unittest
+from pathlib import Path
 
+from clients import PATIENCE
 from find_tests import children
 from plain.terminals import read_all
 from services import Lines, serving, sigint_heeded
+from toxi.outcomes import run_client
+from toxi.shell_client import ShellClient
 
 # It takes what there is of a body for the whole one, and its status 7 says that it has failed.
 CUT_BODY = """exec 3<>/dev/tcp/${TOXI_SHOP%:*}/${TOXI_SHOP#*:} || exit 7
 echo hello >&3; read -r -t 0.5 size <&3 || exit 7
 read -r -t 0.5 -N "$size" body <&3; test -n "$body" || exit 7
 echo "$body" >&2; test "$body" = hello"""
+CONNECTS = "exec 3<>/dev/tcp/${TOXI_SHOP%:*}/${TOXI_SHOP#*:}"
 WAITS = "exec 3<>/dev/tcp/${TOXI_SHOP%:*}/${TOXI_SHOP#*:}; echo hello >&3; read -r -N 7 answer <&3 || exit 7"
+
+
+def command_of(process):
+    """The words of a process, which may have ended."""
+    try:
+        return Path(f"/proc/{process}/cmdline").read_bytes()
+    except OSError:
+        return b""
 
 
 class FindCommandTests(unittest.TestCase):
@@ -58,20 +72,44 @@ class FindCommandTests(unittest.TestCase):
         self.assertEqual(ran.returncode, 1)
         self.assertTrue(ran.stdout.startswith("hang in 10 of 10 runs"), ran.stdout)
         self.assertIn("attributes = { timeout = 0 }", ran.stdout)
-        for stat in os.listdir("/proc"):
-            if stat.isdigit() and os.path.exists(f"/proc/{stat}/cmdline"):
-                with open(f"/proc/{stat}/cmdline", "rb") as words:
-                    self.assertNotIn(mark.encode(), words.read())
+        self.assert_gone(mark)
+
+    def test_a_command_that_hangs_is_ended_with_the_other_groups_of_its_session(self):
+        """`timeout` makes a process group for what it runs, and bash for its jobs."""
+        left = f"sh -c 'sleep 30; touch {self.folder}/left'"
+        for command in (f"timeout 40 {left}; exit $?", f"set -m; {left} & {left} & wait"):
+            outcome = run_client(ShellClient(["bash", "-c", command]), {}, 0.5, lambda: None)
+            self.assertTrue(outcome.hung and outcome.returned)
+            self.assert_gone(f"{self.folder}/left")
+
+    def assert_gone(self, mark):
+        """No process has a mark in its command."""
+        end = time.monotonic() + 10 * PATIENCE
+        while any(mark.encode() in words for words in map(command_of, filter(str.isdigit, os.listdir("/proc")))):
+            self.assertLess(time.monotonic(), end)
+            time.sleep(0.05)
 
     def test_nothing_found(self):
-        ran = self.ran("--runs", "5", "--", "true")
+        ran = self.ran("--runs", "5", "--", "bash", "-c", CONNECTS)
         self.assertEqual((ran.returncode, ran.stderr), (0, ""))
         self.assertRegex(ran.stdout, r"^nothing found by 5 runs in \d+\.\d s\n$")
+        count = "n=$(cat n); echo $((n + 1)) > n; test $n -lt 10 -o $n -gt 12 || exit 5"
+        Path(self.folder, "n").write_text("0")
+        ran = self.ran("--", "bash", "-c", f"{CONNECTS}; {count}")
+        self.assertEqual((ran.returncode, ran.stderr), (0, ""))
+        self.assertRegex(ran.stdout, r"^nothing found by \d+ runs in \d+\.\d s: status 5 came, but in no repetition\n$")
+        ran = self.ran("--budget", "0.5", "--runs", "5000", "--", "bash", "-c", CONNECTS)
+        self.assertEqual((ran.returncode, ran.stderr), (0, ""))
+        self.assertRegex(ran.stdout, r"^nothing found by \d+ of 5000 runs: the budget of 0\.5 s was used up\n$")
 
     def test_what_can_not_be_searched_is_told(self):
         for words, told in (
-            (("--", "false"), "toxi-find: the command doesn't succeed without a fault: status 1\n"),
+            (
+                ("--", "false", "a b"),
+                f"toxi-find: the command doesn't succeed without a fault: status 1\nWithout Toxi: {self.shop.replace('shop', 'TOXI_SHOP')} false 'a b'\n",
+            ),
             (("--", "no-such-command"), "toxi-find: no-such-command isn't there, or can't be run\n"),
+            (("--", "true"), "toxi-find: the client makes no connection to its proxies\n"),
             (("--folder", "/proc", "--", "true"), "toxi-find: /proc isn't empty\n"),
         ):
             ran = self.ran(*words)
@@ -85,7 +123,7 @@ class FindCommandTests(unittest.TestCase):
         """On a terminal, so that its progress tells when it has begun."""
         for number in (signal.SIGINT, signal.SIGTERM):
             shown, end = pty.openpty()
-            run = self.started(end, "--", "true")
+            run = self.started(end, "--", "bash", "-c", CONNECTS)
             text = b""
             while b"\r\x1b[K5 runs" not in text:
                 text += os.read(shown, 1000)

@@ -9,6 +9,7 @@ import subprocess
 import sys
 import tempfile
 import threading
+import time
 import unittest
 from pathlib import Path
 
@@ -68,7 +69,7 @@ class Searching(unittest.TestCase):
 
     def found(self, client, upstreams=None, **options):
         target = Path(tempfile.mkdtemp(dir=self.folder))
-        return find_fault(upstreams or self.shop, client, within=WITHIN, budget=BUDGET, folder=target, **options)
+        return find_fault(upstreams or self.shop, client, **{"within": WITHIN, "budget": BUDGET, "folder": target, **options})
 
 
 class FindTests(Searching):
@@ -131,7 +132,7 @@ class HandedOverTests(Searching):
         test = found.folder / "test_found.py"
         test.write_text(test.read_text().replace("import cut_body as client", "import whole as client"))
         mended = subprocess.run(found.command, shell=True, capture_output=True, text=True, check=False)
-        self.assertEqual((mended.returncode, mended.stderr), (0, ""))
+        self.assertEqual((mended.returncode, mended.stdout, mended.stderr), (0, "right in 1 of 1 runs under script.toml\n", ""))
         with self.assertRaisesRegex(AssertionError, "^wrong answer under "):
             rerun(found.folder, clients.cut_body, within=WITHIN)
         with self.assertRaisesRegex(ToxiError, "isn't empty"):
@@ -180,6 +181,17 @@ class HandedOverTests(Searching):
         self.assertEqual((found.kind, found.script, found.failed, found.repeated), ("wrong answer", script_text(FIRST), 5, 10))
         self.assertIn("times=10)", (found.folder / "test_found.py").read_text())
 
+    def test_what_no_repetition_shows_is_not_found(self):
+        for told, turns, fails in (
+            ("one wrong answer", (10,), lambda addresses: b"wrong"),
+            ("one hang", (10,), lambda addresses: time.sleep(1.5 * WITHIN)),
+            ("three wrong answers in a row, and then none", (10, 11, 12), lambda addresses: b"wrong"),
+            ("two hangs in a row, and then none", (10, 11), lambda addresses: time.sleep(1.5 * WITHIN)),
+        ):
+            with self.subTest(told):
+                numbers = itertools.count()
+                self.assertIsNone(self.found(lambda addresses: (fails if next(numbers) in turns else clients.whole)(addresses), runs=30))
+
     def test_the_budget_ends_a_search(self):
         found = find_fault(self.shop, clients.waits, within=WITHIN, budget=8.0, folder=Path(self.folder, "found"))
         self.assertEqual(found.kind, "hang")
@@ -193,6 +205,13 @@ class HandedOverTests(Searching):
             self.found(lambda addresses: 5, check=lambda answer: None)
         with self.assertRaisesRegex(ToxiError, "the client fails without a fault: KeyError: 'mail'"):
             self.found(lambda addresses: addresses["mail"])
+        with self.assertRaisesRegex(ToxiError, "the client makes no connection to its proxies"):
+            self.found(lambda addresses: 1)
+
+    def test_a_search_without_runs_finds_nothing_by_mistake(self):
+        for options in ({"budget": 0}, {"budget": float("nan")}, {"runs": 0}):
+            with self.subTest(options=options), self.assertRaisesRegex(ValueError, "a search has at least one run and some seconds"):
+                self.found(clients.whole, **options)
 
     def test_what_before_raises_is_raised(self):
         calls = iter(range(100))
