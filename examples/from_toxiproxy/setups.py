@@ -6,7 +6,7 @@ from typing import Any, Dict, List, Tuple
 # A proxy or a toxic as Toxiproxy's JSON has it.
 Entry = Dict[str, Any]
 # A time that `sleep` takes, and the milliseconds of its units.
-SLEEP = re.compile(r"(\d+(?:\.\d+)?)([smh]?)")
+SLEEP = re.compile(r"(\d{1,9}(?:\.\d+)?)([smh]?)")
 UNITS = {"": 1_000, "s": 1_000, "m": 60_000, "h": 3_600_000}
 
 

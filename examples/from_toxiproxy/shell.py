@@ -13,6 +13,8 @@ CALL = re.compile(rf"(?<![\w.-])({'|'.join(PROGRAMS)})(?=[\"'\s]|$)")
 # What ends a command of a shell, or begins a redirection.
 PUNCTUATION = "();<>|&"
 HERE_DOCUMENT = re.compile(r"(?<!<)<<(-?)\s*(['\"]?)(\w+)\2(?!<)")
+# A quote, a comment, or a sign that is no quote.
+QUOTING = re.compile(r"\\.|['\"#]")
 # Programs that print their one argument into a pipe.
 PRINTING = ("echo", "printf")
 
@@ -70,12 +72,15 @@ def _continued(lines: List[str], at: int) -> Tuple[str, int]:
 
 def _closed(joined: str, lines: List[str], at: int) -> Tuple[str, int]:
     """A line with those up to the end of its open quote. A quote that never ends, or behind which there is no call, is the line's own."""
-    whole, behind = joined, at
-    while _is_open(whole):
-        if behind == len(lines):
-            return joined, at
+    parts, behind = [joined], at
+    quote = _open_quote(joined)
+    while quote and behind < len(lines):
         line, behind = _continued(lines, behind)
-        whole = f"{whole}\n{line}"
+        parts.append(line)
+        quote = _open_quote(line, quote)
+    whole = "\n".join(parts)
+    if _is_open(whole):
+        return joined, at
     called = any(command.behind(*PROGRAMS) for command in commands_of(Statement(0, whole)))
     return (whole, behind) if called else (joined, at)
 
@@ -87,6 +92,19 @@ def _with_document(joined: str, lines: List[str], at: int) -> Tuple[str, Optiona
     if found is None or not ends:
         return joined, None, at
     return joined[: found.start()] + joined[found.end() :], "\n".join(lines[at : ends[0]]), ends[0] + 1
+
+
+def _open_quote(line: str, quote: str = "") -> str:
+    """The quote that is open behind a line, where `quote` was open before it. Empty for none."""
+    for found in QUOTING.finditer(line):
+        sign = found[0]
+        if not quote and sign == "#":
+            return ""
+        if not quote and sign in ("'", '"'):
+            quote = sign
+        elif sign == quote or (quote == "'" and sign == "\\'"):
+            quote = ""
+    return quote
 
 
 def _is_open(text: str) -> bool:

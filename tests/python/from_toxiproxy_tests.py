@@ -4,6 +4,7 @@ import os
 import shlex
 import subprocess
 import tempfile
+import time
 import unittest
 
 ROOT = os.path.dirname(os.path.dirname(os.path.dirname(os.path.abspath(__file__))))
@@ -126,6 +127,20 @@ class FromToxiproxyTests(unittest.TestCase):
         for (_, thousandths), named in zip(inexact, self.check_toxicities(inexact)):
             self.assertIn(f"{thousandths} are taken", named)
         self.assertEqual(len(self.check_toxicities(inexact)), len(inexact))
+
+    def test_an_open_quote_is_looked_for_once(self):
+        text = f"{CREATE}echo curl isn't there\n" + "echo a line of a script\n" * 3000
+        begun = time.monotonic()
+        self.assertEqual(self.convert(text), (3, ["line 2: its quotes can't be read"]))
+        self.assertLess(time.monotonic() - begun, 10)
+
+    def test_what_is_told_keeps_to_its_line(self):
+        text = CREATE + "curl localhost:8474/proxies/shop/toxics -d '{\n\x1b[31m'\n"
+        self.assertEqual(self.convert(text), (3, ["line 2: `{\\x0a\\x1b[31m` isn't JSON"]))
+
+    def test_a_sleep_past_all_time(self):
+        text = f"{CREATE}sleep {'9' * 400}\ntoxiproxy-cli toxic add -t timeout shop\n"
+        self.assertEqual(self.convert(text), (0, []))
 
     def test_what_has_no_counterpart(self):
         for changed in ({"type": "noop"}, {"type": "down"}, {"attributes": {"latency": -1}}, {"attributes": {"latency": 1.5}}):
