@@ -87,10 +87,10 @@ def serve(folder, name, entries, script, options, before=(), stderr=None):
     raise SystemExit(f"toxi doesn't listen; {stderr.name if stderr else 'standard error'} says why")
 
 
-def toxi(folder, upstream, engine, script="", options=(), name=None):
+def toxi(folder, upstream, engine, script="", options=(), name=None, before=()):
     """A proxy of Toxi's that drives links in one of its ways."""
     entry = {"name": "bench", "listen": "127.0.0.1:0", "upstream": f"127.0.0.1:{upstream}"}
-    process, ports, _ = serve(folder, name or engine, [entry], script, ["--seed", "1", *ENGINES[engine], *options])
+    process, ports, _ = serve(folder, name or engine, [entry], script, ["--seed", "1", *ENGINES[engine], *options], before)
     return Proxy(name or engine, ports["bench"], process)
 
 

@@ -34,14 +34,17 @@ def said_by(*command):
     return subprocess.run(command, check=True, stdout=subprocess.PIPE, stderr=subprocess.DEVNULL, text=True, timeout=120).stdout
 
 
+def said_by_wrk(port, path, links, seconds):
+    return said_by("wrk", "-t2", f"-c{links}", f"-d{seconds}s", f"http://127.0.0.1:{port}/{path}")
+
+
 def wrk(path, links, seconds=SECONDS):
     def rate(port):
-        said = said_by("wrk", "-t2", f"-c{links}", f"-d{seconds}s", f"http://127.0.0.1:{port}/{path}")
-        return float(re.search(r"Requests/sec:\s+([\d.]+)", said)[1])
+        return float(re.search(r"Requests/sec:\s+([\d.]+)", said_by_wrk(port, path, links, seconds))[1])
     return rate
 
 
-def redis(links, pipeline, requests=25_000):
+def redis(links, pipeline, requests=200_000):
     """`requests`: how many, for each of a pipeline."""
     def rate(port):
         said = said_by("redis-benchmark", "-p", str(port), "-c", str(links), "-P", str(pipeline), "-n", str(requests * pipeline), "-t", "get", "--csv")
@@ -51,8 +54,10 @@ def redis(links, pipeline, requests=25_000):
 
 def iperf(streams, *options):
     def rate(port):
-        said = said_by("iperf3", "-c", "127.0.0.1", "-p", str(port), "-P", str(streams), "-t", str(SECONDS), "-J", *options)
-        return json.loads(said)["end"]["sum_received"]["bits_per_second"] / 1e9
+        said = json.loads(said_by("iperf3", "-c", "127.0.0.1", "-p", str(port), "-P", str(streams), "-t", str(SECONDS), "-J", *options))
+        if "sum_received" not in said["end"]:
+            raise SystemExit(f"iperf3 tells no rate through port {port}: {said}")
+        return said["end"]["sum_received"]["bits_per_second"] / 1e9
     return rate
 
 
@@ -128,6 +133,7 @@ def start_postgres(folder):
     programs = sorted(glob.glob("/usr/lib/postgresql/*/bin"))[-1]
     data, port = os.path.join(folder, "postgres"), proxies.free_port()
     os.makedirs(data)
+    os.chmod(folder, 0o755)
     shutil.chown(data, "postgres")
     as_user = ["runuser", "-u", "postgres", "--"]
     quiet = {"check": True, "stdout": subprocess.DEVNULL, "stderr": subprocess.DEVNULL}
