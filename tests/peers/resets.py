@@ -9,7 +9,7 @@ import select
 import time
 from collections import Counter, namedtuple
 
-from .ends import BLOCK, has_ended, is_reset, read_count, reset, send_until_full, shut_writing
+from .ends import BLOCK, has_ended, is_reset, read_all, read_count, reset, send_until_full, shut_writing
 from .registry import case
 from .waiting import LIMIT, Failed, check, check_in_time, wait_until
 
@@ -208,7 +208,7 @@ def failed_write_resets_both(toxi):
     client, server = toxi.link()
     send_until_full(client)
     reset(client)
-    server.sendall(SAID)
-    heard = is_reset(server)
-    check(heard, "the upstream heard nothing")
+    # Not once: what comes before the client's reset is written without a fault.
+    flood(server)
+    check(read_all(server), "the upstream heard nothing")
     server.close()
