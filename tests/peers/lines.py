@@ -6,14 +6,14 @@ import subprocess
 import time
 
 from .registry import start
-from .served import serve_command
+from .served import Engine, serve_command
 from .waiting import LIMIT, check, check_in_time
 
 # So many links in turn, whose lines take far more than the output and the queue before it hold.
 LINKS = 4_500
 NAME = "shop" + "p" * 200
-# What memory may grow by while the lines wait, in KB.
-GROWTH = 1_024
+# What memory may grow by while the lines wait, in KB. Those of the last third would take more.
+GROWTH = 400
 # The C library keeps memory for each thread, and what one allocates another may free. With one store for all, growth is the program's own.
 ONE_STORE = {**os.environ, "MALLOC_ARENA_MAX": "1"}
 
@@ -45,7 +45,9 @@ def nobody_reads_the_lines(program, folder):
     with socket.create_server(("127.0.0.1", 0)) as upstream:
         upstream.settimeout(LIMIT)
         proxy = {"name": NAME, "listen": "127.0.0.1:0", "upstream": f"127.0.0.1:{upstream.getsockname()[1]}"}
-        command = [*serve_command(program, folder, [proxy]), "--links", str(LINKS)]
+        # Logs wait for their files, which take longer than the links.
+        few_logs = ["--log-links", "100"] if Engine.logs else []
+        command = [*serve_command(program, folder, [proxy]), "--links", str(LINKS), *few_logs]
         pipe = subprocess.PIPE
         with subprocess.Popen(command, env=ONE_STORE, stdout=pipe, stderr=pipe, text=True) as process:
             port = int(process.stdout.readline().rpartition(":")[2])
