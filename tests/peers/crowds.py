@@ -54,7 +54,7 @@ def links_take_two_descriptors(toxi):
     for client, server in pairs:
         client.sendall(b"a")
         read_count(server, 1)
-    taken = len(toxi.descriptors()) - len(toxi.at_rest)
+    taken = len(toxi.link_descriptors())
     check(taken == 200, f"100 links take {taken} descriptors")
     for client, server in pairs:
         client.close()

@@ -149,9 +149,14 @@ class Served:
                 return self.handle(descriptor)
         raise Failed("it has no socket")
 
+    def link_descriptors(self):
+        """The descriptors of its links. A thread that doesn't sleep may have one more in hand."""
+        wait_until(self.sleeps, "a process whose threads sleep")
+        return [descriptor for descriptor in self.descriptors() if descriptor not in self.at_rest]
+
     def link_sockets(self):
         """Handles of the sockets of its links."""
-        return [self.handle(descriptor) for descriptor in self.descriptors() if descriptor not in self.at_rest]
+        return [self.handle(descriptor) for descriptor in self.link_descriptors()]
 
     def client(self):
         return socket.create_connection((self.upstream.host, self.port), timeout=LIMIT)
