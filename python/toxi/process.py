@@ -23,20 +23,22 @@ class Process:
     """
 
     def __init__(self, command: Sequence[str], lines: List[str], said: List[str]) -> None:
-        with signals_blocked():
-            self._child = subprocess.Popen(
-                [*tied_to_parent(), *command],
-                stdin=subprocess.DEVNULL,
-                stdout=subprocess.PIPE,
-                stderr=subprocess.PIPE,
-                encoding="utf-8",
-                errors="replace",
-                env=environment(),
-            )
-            # Runs at the interpreter's exit too.
-            self._kill = weakref.finalize(self, _kill, self._child)
-        self._changed = threading.Condition()
-        self._readers = [self._reader(self._child.stdout, lines), self._reader(self._child.stderr, said)]
+        with contextlib.ExitStack() as undone:
+            with signals_blocked():
+                self._child = subprocess.Popen(
+                    [*tied_to_parent(), *command],
+                    stdin=subprocess.DEVNULL,
+                    stdout=subprocess.PIPE,
+                    stderr=subprocess.PIPE,
+                    encoding="utf-8",
+                    errors="replace",
+                    env=environment(),
+                )
+                # Runs at the interpreter's exit too, and at once where a signal that came meanwhile raises: the child's files are removed then.
+                self._kill = undone.callback(weakref.finalize(self, _kill, self._child))
+            self._changed = threading.Condition()
+            self._readers = [self._reader(self._child.stdout, lines), self._reader(self._child.stderr, said)]
+            undone.pop_all()
 
     def _reader(self, stream: Optional[IO[str]], lines: List[str]) -> threading.Thread:
         assert stream is not None

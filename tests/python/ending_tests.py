@@ -6,11 +6,15 @@ import signal
 import subprocess
 import sys
 import tempfile
+import threading
 import time
 import unittest
+from unittest import mock
 
+from services import sigint_heeded
 from toxi import AsyncToxi, Latency, Link, Proxy, Rule, Slicer, Toxi, ToxiEnded, ToxiError, ToxiFault
 from toxi.lines import parse
+from toxi.process import Process
 
 PATIENCE = 20
 # Nothing listens there: port 1 of this machine.
@@ -129,6 +133,23 @@ class EndingTests(unittest.TestCase):
                 Toxi(NOWHERE, program=program).start()
             with self.assertRaisesRegex(ToxiError, f"^{program} can't be started: Exec format error$"):
                 asyncio.run(AsyncToxi(NOWHERE, program=program).start())
+
+    def test_a_signal_while_it_starts_ends_it(self):
+        """The signals are blocked then. It is ended before this is told, since its files are removed next."""
+        popen, started = subprocess.Popen, []
+
+        def interrupted(*words, **options):
+            started.append(popen(*words, **options))
+            signal.pthread_kill(threading.get_ident(), signal.SIGINT)
+            return started[0]
+
+        with sigint_heeded(), mock.patch("subprocess.Popen", interrupted):
+            try:
+                Process(["sleep", "30"], [], [])
+            except KeyboardInterrupt:
+                self.assertEqual(started[0].returncode, -signal.SIGKILL)
+            else:
+                self.fail("no signal was told")
 
     def test_times_are_seconds(self):
         for wrong in (None, "5", True, math.nan, -1):
