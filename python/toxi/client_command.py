@@ -1,8 +1,15 @@
 """What the commands `toxi-find` and `toxi-sweep` share beside their arguments: their statuses, and what the signals that end a program do."""
 import signal
+import sys
+from typing import TYPE_CHECKING
+
+if TYPE_CHECKING:
+    from sys import UnraisableHookArgs
 
 # Nothing is to be mended, something is, it couldn't be tried, and it was stopped.
 NOTHING, FOUND, REFUSED, STOPPED = 0, 1, 2, 130
+# After how many seconds what was ignored is raised again.
+AGAIN = 0.01
 
 
 def take_signals() -> None:
@@ -13,3 +20,13 @@ def take_signals() -> None:
     for number in (signal.SIGINT, signal.SIGTERM, signal.SIGHUP):
         if signal.getsignal(number) is not signal.SIG_IGN:
             signal.signal(number, signal.default_int_handler)
+    signal.signal(signal.SIGALRM, signal.default_int_handler)
+    sys.unraisablehook = _raise_again
+
+
+def _raise_again(unraisable: "UnraisableHookArgs") -> None:
+    """Python ignores what is raised while it frees an object. A `KeyboardInterrupt` is raised again a moment later, by a timer."""
+    if issubclass(unraisable.exc_type, KeyboardInterrupt):
+        signal.setitimer(signal.ITIMER_REAL, AGAIN)
+    else:
+        sys.__unraisablehook__(unraisable)

@@ -26,6 +26,24 @@ CONNECTS = "exec 3<>/dev/tcp/${TOXI_SHOP%:*}/${TOXI_SHOP#*:}"
 WAITS = "exec 3<>/dev/tcp/${TOXI_SHOP%:*}/${TOXI_SHOP#*:}; echo hello >&3; read -r -N 7 answer <&3 || exit 7"
 
 
+# Python ignores what the signal raises there.
+FREES = """
+import signal, time
+from toxi.client_command import take_signals
+
+class Freed:
+    def __del__(self):
+        signal.raise_signal(signal.SIGTERM)
+
+take_signals()
+try:
+    Freed()
+    time.sleep(30)
+except KeyboardInterrupt:
+    print("interrupted")
+"""
+
+
 def command_of(process):
     """The words of a process, which may have ended."""
     try:
@@ -132,6 +150,10 @@ class FindCommandTests(unittest.TestCase):
             self.assertEqual(run.returncode, 130)
             self.assertRegex(read_all(shown), r"stopped, nothing found by \d+ runs\n$")
             os.close(shown)
+
+    def test_a_signal_that_comes_while_an_object_is_freed_is_not_lost(self):
+        ran = subprocess.run([sys.executable, "-c", FREES], capture_output=True, text=True, check=False)
+        self.assertEqual((ran.returncode, ran.stdout, ran.stderr), (0, "interrupted\n", ""))
 
     def test_a_search_that_is_stopped_hands_over_what_it_has(self):
         shown, end = pty.openpty()
