@@ -1,10 +1,6 @@
 """What the commands `toxi-find` and `toxi-sweep` share beside their arguments: their statuses, and what the signals that end a program do."""
 import signal
 import sys
-from typing import TYPE_CHECKING
-
-if TYPE_CHECKING:
-    from sys import UnraisableHookArgs
 
 # Nothing is to be mended, something is, it couldn't be tried, and it was stopped.
 NOTHING, FOUND, REFUSED, STOPPED = 0, 1, 2, 130
@@ -24,8 +20,11 @@ def take_signals() -> None:
     sys.unraisablehook = _raise_again
 
 
-def _raise_again(unraisable: "UnraisableHookArgs") -> None:
-    """Python ignores what is raised while it frees an object. A `KeyboardInterrupt` is raised again a moment later, by a timer."""
+def _raise_again(unraisable: "sys.UnraisableHookArgs") -> None:
+    """Python ignores what is raised while it frees an object. A `KeyboardInterrupt` is raised again a moment later, by a timer.
+
+    A look behind each run would come late in a long one.
+    """
     if issubclass(unraisable.exc_type, KeyboardInterrupt):
         signal.setitimer(signal.ITIMER_REAL, AGAIN)
     else:

@@ -34,7 +34,7 @@ class Process:
                     errors="replace",
                     env=environment(),
                 )
-                # Runs at the interpreter's exit too, and at once where a signal that came meanwhile raises: the child's files are removed then.
+                # Runs at the interpreter's exit too, and here where a signal that came meanwhile is raised: the caller removes the child's files next.
                 self._kill = undone.callback(weakref.finalize(self, _kill, self._child))
             self._changed = threading.Condition()
             self._readers = [self._reader(self._child.stdout, lines), self._reader(self._child.stderr, said)]
