@@ -16,7 +16,7 @@ use Rattle.tox_link.specs.declared.link_core.act.Act.TheVariants.{Write, WaitUnt
 use Rattle.tox_link.specs.declared.notes.LinkEvent.{LinkEvent}
 use Rattle.tox_link.specs.steps.Held.{AreOf}
 use Rattle.tox_link.specs.direction.Driven.{EndsView, Drove, IsReady, KeepsDone, done_of, moved_of, begun_by, steps_of_act, steps_of_move}
-use Rattle.tox_link.specs.direction.Follows.{unsaid, IsUpTo, IsHeld, IsNew, Follows, Drives, WritesOn, AreLeftOver}
+use Rattle.tox_link.specs.direction.Follows.{AreBegun, unsaid, IsUpTo, IsHeld, IsNew, Follows, Drives, WritesOn, AreLeftOver}
 use Rattle.tox_link.specs.link_core.Acts.{Answered, After, Says, idle_act, wait_act}
 use Rattle.tox_link.specs.link_core.Core.{CoreView, KeepsCore, LeavesOutput, remaining_output, next_instant, core_ending, core_deadline, core_position}
 use Rattle.tox_link.specs.log.Carried.{Carried, KeepsCarried, noted_of}
@@ -32,7 +32,7 @@ use Rattle.tox_link.specs.declared.ring.message.ReadEnd.{ReadEnd}
 use Rattle.tox_link.specs.Sources.{read_end_of}
 use Rattle.tox_link.proofs.CarryLemmas.{append-nothing, prepend-nil}
 use Rattle.tox_link.proofs.FollowLemmas.{clad, drives-ended, unsent-none}
-use Rattle.tox_link.proofs.UnwrittenLemmas.{heard-unsaid, heard_bytes-unsaid, joined-append, said-of_heard, unsaid-append, unsaid-open}
+use Rattle.tox_link.proofs.UnwrittenLemmas.{begun-none, heard-unsaid, heard_bytes-unsaid, joined-append, said-of_heard, unsaid-append, unsaid-open}
 use Rattle.tox_link.proofs.StepLemmas.{start-carried, says-heard}
 use Rattle.tox_link.proofs.LoggedLemmas.{said-within}
 use Rattle.tox_link.proofs.Logs.{end-same, faithful-front, events-append, events-none, has_source_end-append}
@@ -388,6 +388,14 @@ none-begun (WaitUntil t) now never = refl
 none-begun WaitForInput now never = refl
 none-begun (End last) now never = refl
 
+-- the slice that an answer gives is given at or past its instant
+pub begun-act : (reported : ℕ → Type 0) (old new : CoreView) (now : ℕ) (act : Act) → reported now → After old now act new
+    → AreBegun reported (begun_by act now)
+begun-act reported old new now (Write slice) read output = (read, output.0, tt)
+begun-act reported old new now (WaitUntil t) read output = tt
+begun-act reported old new now WaitForInput read output = tt
+begun-act reported old new now (End last) read output = tt
+
 -- nothing happened to the core
 keeps-same : (reported : ℕ → Type 0) (old new : CoreView) → new ≡ old → KeepsCarried reported old [] new
 keeps-same reported old new same means log carried = subst (Carried means reported new) (sym (append-nil log))
@@ -438,6 +446,7 @@ pub ready-new : (reported : ℕ → Type 0) (link : PolledLink) (left : Option (
 ready-new reported link left failed new held works = record {
   held = held;
   read = inl new.latest;
+  begun = begun-none reported link.unwritten.items new.unwritten;
   working = λ going. works;
   cause = subst (λ source. IfSome source (λ end. (reads count : ℕ) → EndsFor end reads count left failed)) (sym (ap read_end_of new.source)) tt;
 }

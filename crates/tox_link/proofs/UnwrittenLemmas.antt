@@ -9,7 +9,7 @@ use Rattle.tox_plan.proofs.Deliveries.{slices_table-append}
 use Rattle.tox_link.specs.declared.direction.unwritten.Unwritten.{Unwritten}
 use Rattle.tox_link.specs.declared.notes.LinkEvent.{LinkEvent}
 use Rattle.tox_link.specs.declared.notes.LinkEvent.TheVariants.{Wrote}
-use Rattle.tox_link.specs.direction.Follows.{AreJoined, IsUpTo, first_start, unsaid}
+use Rattle.tox_link.specs.direction.Follows.{AreBegun, AreJoined, IsUpTo, first_start, unsaid}
 use Rattle.tox_link.specs.log.Log.{has_source_end, heard, heard_bytes, said, SaysHeard}
 use Rattle.tox_link.proofs.Depths.{shallow-front}
 use Rattle.tox_link.proofs.Logs.{heard-wrote, heard_bytes-append, said-append}
@@ -65,6 +65,29 @@ pub idle-up_to : (slices : List Unwritten) (written position : ℕ) → slices �
 idle-up_to slices written position idle same =
     let start : first_start position slices ≡ position = ap (first_start position) idle in
     record { joined = subst (AreJoined position) (sym idle) tt; from_start = omega (arith, start, same); to_position = omega (arith, same) }
+
+-- The readings at which they were given
+
+pub begun-none : (reported : ℕ → Type 0) (slices : List Unwritten) → slices ≡ [] → AreBegun reported slices
+begun-none reported slices none = subst (AreBegun reported) (sym none) tt
+
+-- that of the first
+pub begun-first : (reported : ℕ → Type 0) (slices : List Unwritten) (first : Unwritten) → AreBegun reported slices → slice_get slices 0 ≡ Some first
+    → reported first.reading × (first.slice.instant ≤ first.reading)
+begun-first reported [] first begun is = absurd (cc)
+begun-first reported (slice ∷ more) first begun is =
+    let same : slice ≡ first = cc in
+    subst (λ (slice : Unwritten). reported slice.reading × (slice.slice.instant ≤ slice.reading)) same (begun.0, begun.1)
+
+-- those of the others
+pub begun-behind : (reported : ℕ → Type 0) (slices : List Unwritten) → AreBegun reported slices → AreBegun reported (drop 1 slices)
+begun-behind reported [] begun = tt
+begun-behind reported (first ∷ more) begun = begun.2
+
+pub begun-append : (reported : ℕ → Type 0) (slices more : List Unwritten) → AreBegun reported slices → AreBegun reported more
+    → AreBegun reported (slices ++ more)
+begun-append reported [] more begun rest = rest
+begun-append reported (first ∷ slices) more begun rest = (begun.0, begun.1, begun-append reported slices more begun.2 rest)
 
 -- What is still to be noted of them
 

@@ -18,7 +18,7 @@ use Rattle.tox_link.specs.log.Logged.{HasEnded}
 use Rattle.tox_link.specs.ring.Messages.{EndsFor}
 use Rattle.tox_link.specs.steps.Held.{MayTake}
 use Rattle.tox_link.specs.Sources.{read_end_of}
-use Rattle.tox_link.specs.direction.Follows.{IsHeld, Follows, Drives}
+use Rattle.tox_link.specs.direction.Follows.{AreBegun, IsHeld, Follows, Drives}
 
 -- what the ends and the notes of a direction tell: the bytes still to be read, those written, and the events
 pub record EndsView : Type 0 where
@@ -29,11 +29,12 @@ pub record EndsView : Type 0 where
 abbrev pub ends_view : Option (List ℕ) → Option (List ℕ) → Option (List LinkEvent) → EndsView
 ends_view remaining written events = record { remaining = remaining; written = written; events = events }
 
--- a direction at a clock with these readings and a source that has so much left: the source works while it is read,
--- and ended as the direction says, whatever number of reads was allowed
+-- a direction at a clock with these readings and a source that has so much left: each slice that is being written was given at a reading,
+-- and the source works while it is read, and ended as the direction says, whatever number of reads was allowed
 pub record IsReady (reported : ℕ → Type 0) (link : PolledLink) (left : Option (List ℕ)) (failed : Bool) : Type 0 where
   pub held : IsHeld link
   pub read : (link.core.latest ≡ 0) ⊎ reported link.core.latest
+  pub begun : AreBegun reported link.unwritten.items
   pub working : link.ended ≡ false → failed ≡ false
   pub cause : IfSome (read_end_of link.source) (λ end. (reads count : ℕ) → EndsFor end reads count left failed)
 

@@ -34,6 +34,12 @@ AreJoined position [] = Unit {0}
 AreJoined position (unwritten ∷ more) =
     (unwritten.slice.span.start < unwritten.slice.span.stop) × (unwritten.slice.span.stop ≡ first_start position more) × AreJoined position more
 
+-- each slice was given to be written at a reading that the clock reported, at or past the slice's instant
+abbrev pub AreBegun : (ℕ → Type 0) → List Unwritten → Type 0
+AreBegun reported [] = Unit {0}
+AreBegun reported (unwritten ∷ more) =
+    reported unwritten.reading × (unwritten.slice.instant ≤ unwritten.reading) × AreBegun reported more
+
 -- what is written stops within the slices that are being written, or else where the core's next slice starts
 pub record IsUpTo (slices : List Unwritten) (written position : ℕ) : Type 0 where
   pub joined : AreJoined position slices

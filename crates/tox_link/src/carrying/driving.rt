@@ -22,15 +22,19 @@ use crate::steps::deciding::decide;
 use std::sync::Wait;
 use tox_time::{Ending, Gate, Micros, Sink, Slice};
 
-/// Writes the next slice and notes it. Gives up the pieces before its end.
-fn write_next<N: Notes, W: Sink>(
+/// Writes the next slice and notes it. Gives up the pieces before its end. The clock has told the reading before, at or past the
+/// slice's instant.
+fn write_next<C: Clock, N: Notes, W: Sink>(
     side: &mut WriterSide<'_>,
+    _clock: &C,
     notes: &mut N,
     writer: &mut W,
     slice: &Slice,
     now: &Micros,
 ) -> Result<(), LinkFault>
     requires due { GivesSlice side.old slice.now }
+    requires reported { C.reported _clock.now now.now }
+    requires reached { slice.now.instant ≤ now.now }
     requires working { W.failed writer.old ≡ false }
     ensures same { (side.new.core ≡ side.old.core) × (side.new.inbox ≡ side.old.inbox)
         × (side.new.source ≡ side.old.source) × (side.new.ended ≡ side.old.ended) }
@@ -104,7 +108,7 @@ fn act<R: Wait, C: Clock, N: Notes, W: Sink>(
     let (act, now) = decide(&mut side.core, clock);
     match act {
         Act::Write(slice) => {
-            write_next(side, notes, writer, &slice, &now)?;
+            write_next(side, clock, notes, writer, &slice, &now)?;
             Ok(None)
         }
         Act::WaitUntil(instant) => {

@@ -2,7 +2,7 @@
 ghost use Rattle.std.specs.Prelude.{◌≡◌, ℕ, ◌<◌, ◌≤◌, ◌⊎◌, List, [], ◌∷◌, ◌++◌, length, Option};
 ghost use Rattle.tox_link.specs.declared.notes.LinkEvent.{LinkEvent as OneEvent};
 ghost use Rattle.tox_link.specs.direction.Driven.{Drove, begun_by, steps_of_act, ends_view};
-ghost use Rattle.tox_link.specs.direction.Follows.{IsHeld};
+ghost use Rattle.tox_link.specs.direction.Follows.{AreBegun, IsHeld};
 ghost use Rattle.tox_link.specs.link_core.Acts.{Answered};
 
 use crate::clock::Clock;
@@ -17,7 +17,9 @@ pub(crate) fn ask<C: Clock>(link: &mut PolledLink, clock: &C) -> Act
     requires held { IsHeld link.old }
     requires read { (link.old.core.latest ≡ 0) ⊎ C.reported clock.now link.old.core.latest }
     requires room { length link.old.unwritten.items < 4 }
+    requires begun { AreBegun (C.reported clock.now) link.old.unwritten.items }
     ensures held { IsHeld link.new }
+    ensures begun { AreBegun (C.reported clock.now) link.new.unwritten.items }
     ensures reported { C.reported clock.now link.new.core.latest }
     ensures answered { Answered link.old.core link.new.core link.new.core.latest result }
     ensures same { link.new ≡ record link.old {
@@ -43,7 +45,9 @@ pub(crate) fn ask<C: Clock>(link: &mut PolledLink, clock: &C) -> Act
 pub(crate) fn ask_further<C: Clock>(link: &mut PolledLink, clock: &C, first: &Slice)
     requires held { IsHeld link.old }
     requires read { C.reported clock.now link.old.core.latest }
+    requires begun { AreBegun (C.reported clock.now) link.old.unwritten.items }
     ensures held { IsHeld link.new }
+    ensures begun { AreBegun (C.reported clock.now) link.new.unwritten.items }
     ensures reported { C.reported clock.now link.new.core.latest }
     ensures same { link.new ≡ record link.old {
       core = link.new.core;

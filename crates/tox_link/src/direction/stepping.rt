@@ -102,7 +102,7 @@ fn step<C: Clock, N: Notes, S: PollSource, W: PollSink>(
     let Some(first) = &first else {
         return act(link, alloc, clock, notes, source, scratch);
     };
-    match write_on(link, notes, sink, first) {
+    match write_on(link, clock, notes, sink, first) {
         Ok(moved) if moved => Ok(Progress::Again),
         Ok(_) => Ok(Progress::Waits(sink.due())),
         Err(fault) => Err(fault),

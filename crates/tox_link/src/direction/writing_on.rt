@@ -6,8 +6,9 @@ ghost use Rattle.tox_link.specs.Reports.{IsFaultAt};
 ghost use Rattle.tox_link.specs.declared.link_fault.LinkFault.TheVariants as FaultOf;
 ghost use Rattle.tox_link.specs.declared.notes.LinkEvent.{LinkEvent as OneEvent};
 ghost use Rattle.tox_link.specs.direction.Driven.{steps_of_move};
-ghost use Rattle.tox_link.specs.direction.Follows.{IsHeld, WritesOn};
+ghost use Rattle.tox_link.specs.direction.Follows.{AreBegun, IsHeld, WritesOn};
 
+use crate::clock::Clock;
 use crate::direction::parts::parts_of;
 use crate::direction::poll_ends::PollSink;
 use crate::direction::polled_link::PolledLink;
@@ -26,6 +27,7 @@ fn write_parts<W: PollSink>(
     requires left { link.old.written < first.now.slice.span.stop }
     requires working { W.failed sink.old ≡ false }
     ensures held { (link.new.core ≡ link.old.core) × IsHeld link.new }
+    ensures same { link.new.unwritten ≡ link.old.unwritten }
     ensures wrote { WritesOn link.old (W.written sink.old) [] link.new (W.written sink.new) }
     ensures on { link.old.written + steps_of_move result ≤ link.new.written }
     ensures few { link.new.written ≤ link.old.written + 65_536 }
@@ -74,17 +76,20 @@ fn note_written<N: Notes>(
 }
 
 /// One step of the slices that are being written: their next bytes are written, or the first one is noted once it is written to its
-/// end. False where the sink would wait.
-pub(crate) fn write_on<N: Notes, W: PollSink>(
+/// end. False where the sink would wait. The clock has told the reading of each slice before, at or past the slice's instant.
+pub(crate) fn write_on<C: Clock, N: Notes, W: PollSink>(
     link: &mut PolledLink,
+    _clock: &C,
     notes: &mut N,
     sink: &mut W,
     first: &Unwritten,
 ) -> Result<bool, LinkFault>
     requires held { IsHeld link.old }
+    requires begun { AreBegun (C.reported _clock.now) link.old.unwritten.items }
     requires writing { slice_get link.old.unwritten.items 0 ≡ Some first.now }
     requires working { W.failed sink.old ≡ false }
     ensures held { IsHeld link.new }
+    ensures begun { AreBegun (C.reported _clock.now) link.new.unwritten.items }
     ensures wrote { (more : List OneEvent)
         × (N.events notes.new ≡ with_events (N.events notes.old) more)
         × WritesOn link.old (W.written sink.old) more link.new (W.written sink.new)

@@ -6,6 +6,7 @@ use Rattle.tox_link.proofs.direction.asking.ask_further.Goals as goal
 pub loop-init : goal.loop-init
 loop-init g c = record {
   held = c.requires.held;
+  begun = c.requires.begun;
   reported = c.requires.read;
   same = refl;
   ended = refl;
@@ -15,6 +16,7 @@ loop-init g c = record {
 pub returns-in_default : goal.returns-in_default
 returns-in_default g c = record {
   held = c.ask.ensures.held;
+  begun = c.ask.ensures.begun;
   reported = c.ask.ensures.reported;
   same = same-on c.args.link.now c.loop.link c.ask.new.link _ c.loop.invariant.same c.ask.ensures.same;
   ended = c.ask.ensures.answered.kept.ended ∙ c.loop.invariant.ended;
@@ -27,6 +29,7 @@ returns-in_default g c = record {
 pub loop-preserved : goal.loop-preserved
 loop-preserved g c = record {
   held = c.ask.ensures.held;
+  begun = c.ask.ensures.begun;
   reported = c.ask.ensures.reported;
   same = same-on c.args.link.now c.loop.link c.ask.new.link _ c.loop.invariant.same c.ask.ensures.same;
   ended = c.ask.ensures.answered.kept.ended ∙ c.loop.invariant.ended;

@@ -1,10 +1,13 @@
 -- What is written to its end is noted.
 use Rattle.std.proofs.Common.{◌∷◌, [], ap, subst, sym, ◌∙◌, arith}
 use Rattle.tox_link.specs.declared.notes.LinkEvent.TheVariants.{Wrote}
+use Rattle.arrayvec.specs.ArrayVec.{ArrayVec}
 use Rattle.tox_link.specs.declared.direction.polled_link.PolledLink.{PolledLink}
-use Rattle.tox_link.specs.direction.Follows.{IsHeld, WritesOn}
+use Rattle.tox_link.specs.declared.direction.unwritten.Unwritten.{Unwritten}
+use Rattle.tox_link.specs.direction.Follows.{AreBegun, IsHeld, WritesOn}
 use Rattle.tox_link.proofs.FollowLemmas.{held-noted, writes-noted, writes-same}
 use Rattle.tox_link.proofs.Logs.{events-none}
+use Rattle.tox_link.proofs.UnwrittenLemmas.{begun-behind}
 use Rattle.tox_link.proofs.direction.writing_on.write_on.Goals as goal
 
 pub returns-then-link-first-clause-wrote : goal.returns-then-link-first-clause-wrote
@@ -14,6 +17,20 @@ returns-then-link-first-clause-wrote g c = (
   c.write_parts.ensures.wrote,
   omega (arith, c.write_parts.ensures.on),
 )
+
+pub returns-then-link-first-clause-begun : goal.returns-then-link-first-clause-begun
+returns-then-link-first-clause-begun g c =
+    subst (λ (slices : ArrayVec Unwritten). AreBegun (g.C.Clock.reported c.args._clock.now) slices.items) (sym c.write_parts.ensures.same) c.requires.begun
+
+pub returns-in-Ok-clause-begun : goal.returns-in-Ok-clause-begun
+returns-in-Ok-clause-begun g c =
+    let reported = g.C.Clock.reported c.args._clock.now in
+    subst (λ (link : PolledLink). AreBegun reported link.unwritten.items) (sym c.in-Ok.ensures.done)
+    (begun-behind reported c.args.link.now.unwritten.items c.requires.begun)
+
+pub returns-in-Err-clause-begun : goal.returns-in-Err-clause-begun
+returns-in-Err-clause-begun g c =
+    subst (λ (link : PolledLink). AreBegun (g.C.Clock.reported c.args._clock.now) link.unwritten.items) (sym c.in-Err.ensures.refused.1) c.requires.begun
 
 pub returns-in-Ok-clause-held : goal.returns-in-Ok-clause-held
 returns-in-Ok-clause-held g c =
