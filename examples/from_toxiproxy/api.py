@@ -51,14 +51,16 @@ class _Words(argparse.ArgumentParser):
         raise NotKnown("its options can't be read")
 
 
-def perform_call(command: Command, place: str, setup: Setup) -> None:
-    """Does to a setup what a call of the interface does, if the command is one. What can't be read is named."""
+def perform_call(command: Command, place: str, setup: Setup) -> bool:
+    """Does to a setup what a call of the interface does. Whether the command is one. What can't be read is named."""
     try:
         call = call_of(command)
         if call is not None and call.method not in READING:
             _perform(call, place, setup)
     except NotKnown as error:
         setup.miss(place, str(error))
+        return True
+    return call is not None
 
 
 def call_of(command: Command) -> Optional[Call]:
@@ -162,6 +164,9 @@ def _perform(call: Call, place: str, setup: Setup) -> None:
     named = f"{call.method} /{call.path}"
     parts = call.path.split("/")
     creates, adds = parts in (["proxies"], ["populate"]), len(parts) == 3 and parts[::2] == ["proxies", "toxics"]
+    if len(parts) == 4 and parts[:3:2] == ["proxies", "toxics"] and call.method in ("POST", "PATCH", "DELETE"):
+        _change_toxic(call, parts[1], parts[3], place, setup)
+        return
     if call.method != "POST" or not (creates or adds):
         setup.miss(place, f"`{named}` changes a proxy while it runs")
         return
@@ -174,3 +179,14 @@ def _perform(call: Call, place: str, setup: Setup) -> None:
             setup.create(entry, place, named)
         else:
             setup.add(parts[1], entry, place, named)
+
+
+def _change_toxic(call: Call, proxy: str, toxic: str, place: str, setup: Setup) -> None:
+    named = f"{call.method} /{call.path}"
+    if call.method == "DELETE":
+        setup.remove(proxy, toxic, place, named)
+        return
+    change = _json(call.body or "")
+    if not isinstance(change, dict):
+        raise NotKnown(f"`{named}` has another body than an object")
+    setup.update(proxy, toxic, change, place, named)

@@ -1,5 +1,5 @@
 """The commands of `toxiproxy-cli` that make a setup."""
-from typing import Dict, List, Tuple
+from typing import Callable, Dict, List, Tuple
 
 from .setups import Entry, Setup
 
@@ -23,8 +23,8 @@ def perform_command(words: List[str], place: str, setup: Setup) -> None:
         setup.miss(place, "a variable of the shell isn't known here")
     elif words[0] in ("create", "c"):
         _create(words[1:], place, setup)
-    elif words[0] in ("toxic", "t") and words[1:2] and words[1] in ("add", "a"):
-        _add(words[2:], place, setup)
+    elif words[0] in ("toxic", "t") and words[1:2] and words[1] in TOXIC_COMMANDS:
+        TOXIC_COMMANDS[words[1]](words[2:], place, setup)
     else:
         setup.miss(place, f"`{' '.join(words[:2])}` changes a proxy while it runs")
 
@@ -36,14 +36,37 @@ def _create(words: List[str], place: str, setup: Setup) -> None:
 
 
 def _add(words: List[str], place: str, setup: Setup) -> None:
+    proxy, toxic = _toxic_of(words)
+    setup.add(proxy, {"stream": "downstream", **toxic}, place, "toxic add")
+
+
+def _update(words: List[str], place: str, setup: Setup) -> None:
+    proxy, toxic = _toxic_of(words)
+    setup.update(proxy, toxic.pop("name", ""), toxic, place, "toxic update")
+
+
+def _remove(words: List[str], place: str, setup: Setup) -> None:
+    proxy, toxic = _toxic_of(words)
+    setup.remove(proxy, toxic.get("name", ""), place, "toxic remove")
+
+
+def _toxic_of(words: List[str]) -> Tuple[str, Entry]:
+    """The proxy and the toxic that the words of a command name: type, name, attributes, toxicity and stream, as far as they are there."""
     streams = [STREAM_FLAGS[word] for word in words if word in STREAM_FLAGS]
     found, rest = _flags([word for word in words if word not in STREAM_FLAGS])
     pairs = [pair.partition("=") for pair in found.get("attribute", [])]
-    toxic: Entry = {"stream": (["downstream"] + streams)[-1], "attributes": {key: value for key, _, value in pairs}}
+    toxic: Entry = {"attributes": {key: value for key, _, value in pairs}}
     for flag, key in (("type", "type"), ("toxicName", "name"), ("toxicity", "toxicity")):
         if flag in found:
             toxic[key] = found[flag][-1]
-    setup.add(rest[0] if len(rest) == 1 else "", toxic, place, "toxic add")
+    if streams:
+        toxic["stream"] = streams[-1]
+    return (rest[0] if len(rest) == 1 else ""), toxic
+
+
+TOXIC_COMMANDS: Dict[str, Callable[[List[str], str, Setup], None]] = {
+    "add": _add, "a": _add, "update": _update, "u": _update, "remove": _remove, "r": _remove, "delete": _remove, "d": _remove,
+}
 
 
 def _flags(words: List[str]) -> Tuple[Dict[str, List[str]], List[str]]:

@@ -4,9 +4,10 @@ import re
 from typing import Any, Dict, List, Optional, Tuple, Type
 
 from toxi import Bandwidth, Latency, LimitData, Proxy, ResetPeer, Rule, Slicer, SlowClose, Timeout, Toxic
+from toxi.lines import printed
 from toxi.rules import toml_value
 
-from .setups import Entry, Setup
+from .setups import AGE, Entry, Setup
 
 KINDS: Tuple[Type[Toxic], ...] = (Bandwidth, Latency, LimitData, ResetPeer, Slicer, SlowClose, Timeout)
 TYPES = {kind.type: kind for kind in KINDS}
@@ -32,11 +33,11 @@ def converted(setup: Setup) -> Tuple[List[Proxy], List[Rule]]:
 
 
 def comments(setup: Setup) -> List[str]:
-    """A line for each toxic that was added to a running proxy: which `from` would say it."""
-    lines = []
+    """What was noted, and a line for each toxic that was added to a running proxy: which `from` would say it."""
+    lines = [f"# {printed(note)}" for note in setup.notes]
     for name, entry in setup.proxies.items():
         for number, toxic in enumerate(entry["toxics"], 1):
-            kind, millis = TYPES.get(str(toxic.get("type"))), setup.added.get((name, number), 0)
+            kind, millis = TYPES.get(str(toxic.get("type"))), toxic.get(AGE, 0)
             if hasattr(kind, "from_") and 0 < millis <= MAX_MILLIS:
                 age = f"{millis / 1000:g} s"
                 added = f"# Proxy {toml_value(name)}, toxic {number}: added to the running proxy, after {age}."
@@ -61,6 +62,9 @@ def _toxic(entry: Entry, place: str, setup: Setup) -> Optional[Toxic]:
             return None
         else:
             attributes[key] = int(value)
+    if kind is Bandwidth and attributes.get("rate") == 0:
+        setup.miss(place, "`rate` is 0, which limits nothing in Toxiproxy: the toxic is left out")
+        return None
     stream = (entry.get("stream") or "downstream").lower()
     return kind(name=entry.get("name") or None, stream=stream, toxicity=toxicity, **attributes)
 
@@ -77,5 +81,6 @@ def _toxicity(value: object, place: str, setup: Setup) -> Optional[float]:
         return None
     whole = min(max(whole, 0), WHOLE)
     if whole != thousandths:
-        setup.miss(place, f"the toxicity {value} isn't a whole number of thousandths, 0 to 1000; {whole} are taken")
+        never = ", so no connection meets the toxic" if whole == 0 else ""
+        setup.miss(place, f"the toxicity {value} isn't a whole number of thousandths, 0 to 1000; {whole} are taken{never}")
     return None if whole == WHOLE else whole / WHOLE

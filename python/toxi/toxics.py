@@ -10,7 +10,7 @@ from .reprs import repr_without_defaults
 
 Toxicity = Union[int, float, str]
 # Attributes that stand in a script only where they aren't 0.
-OMITTED_AT_ZERO = ("from", "after")
+OMITTED_AT_ZERO = ("until", "from", "after")
 TOXICITY_OF_ONE = (
     "toxicity=1 has two meanings: write toxicity=1.0, or leave it out, for every link, and toxicity=0.001 for one link in a thousand"
 )
@@ -51,7 +51,7 @@ class Toxic:
         return repr_without_defaults(self)
 
     def attributes(self) -> Dict[str, int]:
-        """The attributes by their keys in a script, without those that all toxics have. A `from` or `after` of 0 is left out."""
+        """The attributes by their keys in a script, without those that all toxics have. An `until`, `from` or `after` of 0 is left out."""
         common = {field.name for field in fields(Toxic)}
         # `from` is a word of Python, so its field is `from_`.
         values = {field.name.rstrip("_"): getattr(self, field.name) for field in fields(self) if field.name not in common}

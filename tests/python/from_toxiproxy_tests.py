@@ -22,6 +22,7 @@ TOXICS = [
 STREAMS = ("upstream", "downstream")
 FIRST = "proxy shop listen 127.0.0.1:26379 upstream 127.0.0.1:6379 "
 SHOP = {"name": "shop", "listen": "127.0.0.1:26379", "upstream": "127.0.0.1:6379", "enabled": True}
+UNKNOWN = "for the proxy `{}`, which nothing before it creates: name the populate file too, before this one"
 CREATE = "toxiproxy-cli create -l 127.0.0.1:26379 -u 127.0.0.1:6379 shop\n"
 
 
@@ -31,12 +32,14 @@ class FromToxiproxyTests(unittest.TestCase):
         self.addCleanup(folder.cleanup)
         self.folder = folder.name
 
-    def convert(self, text):
-        """The status, and what has no counterpart."""
-        with open(os.path.join(self.folder, "setup"), "w") as file:
-            file.write(text)
+    def convert(self, *texts, names=("setup", "more")):
+        """The status, and what has no counterpart. Each text is a file of its own."""
+        files = names[: len(texts)]
+        for name, text in zip(files, texts):
+            with open(os.path.join(self.folder, name), "w") as file:
+                file.write(text)
         ran = subprocess.run(
-            [FROM_TOXIPROXY, "setup", "p.json", "s.toml"], cwd=self.folder, capture_output=True, text=True, check=False
+            [FROM_TOXIPROXY, *files, "p.json", "s.toml"], cwd=self.folder, capture_output=True, text=True, check=False
         )
         self.assertEqual(ran.stdout, "")
         return ran.returncode, [line[len("from-toxiproxy: ") :] for line in ran.stderr.splitlines()]
@@ -223,7 +226,7 @@ class FromToxiproxyTests(unittest.TestCase):
     def test_calls_that_have_no_counterpart(self):
         for call, named in (
             ("curl -X DELETE localhost:8474/proxies/shop", "`DELETE /proxies/shop` changes a proxy while it runs"),
-            ("curl -d '{}' localhost:8474/proxies/shop/toxics/slow", "`POST /proxies/shop/toxics/slow` changes a proxy while it runs"),
+            ("curl -d '{}' localhost:8474/proxies/shop/toxics/slow", "`POST /proxies/shop/toxics/slow` for the toxic `slow`, which the proxy `shop` doesn't have"),
             ("curl -XPOST localhost:8474/reset", "`POST /reset` changes a proxy while it runs"),
             ("xh PATCH :8474/proxies/shop enabled:=false", "`PATCH /proxies/shop` changes a proxy while it runs"),
             ("echo '{}' | http :8474/proxies/shop", "`POST /proxies/shop` changes a proxy while it runs"),
@@ -234,7 +237,7 @@ class FromToxiproxyTests(unittest.TestCase):
             ("curl localhost:8474/proxies -d '[]'", "`POST /proxies` has another body than an object"),
             ("curl localhost:8474/proxies -d '{\"name\": \"a\"}'", "`POST /proxies` without a name or an upstream"),
             ('curl localhost:8474/proxies -d "{\\"name\\": \\"$NAME\\"}"', "a variable of the shell isn't known here"),
-            ("http :8474/proxies/mail/toxics type=latency", "`POST /proxies/mail/toxics` without a type, or for a proxy that wasn't created"),
+            ("http :8474/proxies/mail/toxics type=latency", f"`POST /proxies/mail/toxics` {UNKNOWN.format('mail')}"),
             ("http :8474/proxies/shop/toxics a=b a[b]=c", "`a[b]` can't be read"),
             ("wget --post-data '{}' localhost:8474/proxies", "a call by wget isn't read"),
         ):
@@ -265,8 +268,79 @@ class FromToxiproxyTests(unittest.TestCase):
             ("until $CLI toxic add -t latency shop; do sleep 1; done", "`$CLI toxic`"),
         ):
             said = [f"line 3: {named}: a variable of the shell isn't known here"]
-            self.assertEqual(self.convert(f"CLI=toxiproxy-cli\n{CREATE}{command}\n"), (3, said), command)
+            self.assertEqual(self.convert(f"CLI=$(command -v toxiproxy-cli)\n{CREATE}{command}\n"), (3, said), command)
         self.assertEqual(self.convert(f"{CREATE}echo $CLI\n"), (0, []))
+
+    def test_variables_of_plain_text(self):
+        text = "CLI='toxiproxy-cli -h localhost:8474'\nexport HOST=127.0.0.1 \nLISTEN=\"$HOST:26379\"\nMS=7\n"
+        text += "$CLI create -l $LISTEN -u ${HOST}:6379 shop\n$CLI toxic add -t latency -a latency=$MS shop\n"
+        text += "BODY='{\"type\": \"timeout\", \"stream\": \"upstream\"}'\ncurl -d \"$BODY\" localhost:8474/proxies/shop/toxics\n"
+        self.assertEqual(self.convert(text), (0, []))
+        self.assertEqual(self.picked()[:2], [FIRST + "enabled", "0 applied latency:latency=7,jitter=0,toxicity=1000 latency_downstream"])
+        self.assertEqual(len(self.picked("upstream")), 2)
+
+    def test_variables_that_the_shell_computes(self):
+        for line in ("MS=$(date +%s)", "MS=`id -u`", "if true; then MS=7; fi", "MS=7; MS=$1", "read MS", "echo MS=7", "'MS=7'"):
+            status, missing = self.convert(f"{CREATE}{line}\ntoxiproxy-cli toxic add -t latency -a latency=$MS shop\n")
+            self.assertEqual((status, missing), (3, ["line 3: a variable of the shell isn't known here"]), line)
+        self.assertEqual(self.convert(f"MS=7\n{CREATE}toxiproxy-cli toxic add -t latency -a latency='$MS' shop\n")[0], 3)
+
+    def test_loops_over_words(self):
+        proxies = "HOSTS='shop mail'\nfor p in $HOSTS; do toxiproxy-cli create -u 127.0.0.1:6379 -l 127.0.0.1:26379 $p; done\n"
+        toxics = "for p in shop\ndo\n  for t in timeout slow_close; do\n    toxiproxy-cli toxic add -t $t \"$p\"\n  done\ndone\n"
+        self.assertEqual(self.convert(proxies + toxics), (0, []))
+        self.assertEqual([line.split()[-1] for line in self.picked()[1:]], ["timeout_downstream", "slow_close_downstream"])
+        with open(os.path.join(self.folder, "p.json")) as file:
+            self.assertEqual([proxy["name"] for proxy in json.load(file)], ["shop", "mail"])
+        self.assertEqual(self.convert(f"{CREATE}for p in *; do toxiproxy-cli toxic add -t timeout $p; done\n")[0], 3)
+
+    def test_several_files(self):
+        added = "toxiproxy-cli toxic add -t timeout shop\n"
+        self.assertEqual(self.convert(json.dumps([SHOP]), added), (0, []))
+        self.assertEqual(len(self.picked()), 2)
+        said = f"more, line 1: `toxic add` {UNKNOWN.format('mail')}"
+        self.assertEqual(self.convert(json.dumps([SHOP]), added.replace("shop", "mail")), (3, [said]))
+        self.assertEqual(self.convert(CREATE, added)[0], 0)
+        self.assertEqual(self.convert(CREATE, "[")[0], 1)
+
+    def test_toxics_that_are_changed_before_anything_meets_them(self):
+        text = CREATE + "toxiproxy-cli toxic add -t latency -a latency=5 -a jitter=1 -n slow shop\nMS=8\ntoxiproxy-cli list\n"
+        text += "toxiproxy-cli toxic update -n slow -a latency=$MS --toxicity 0.5 shop\ncurl -d '{\"attributes\": {\"jitter\": 2}}' :8474/proxies/shop/toxics/slow\n"
+        text += "toxiproxy-cli toxic add -t timeout shop\ntoxiproxy-cli toxic remove -n timeout_downstream shop\n"
+        text += "toxiproxy-cli toxic add -t timeout -n t shop\nhttp DELETE :8474/proxies/shop/toxics/t\n"
+        self.assertEqual(self.convert(text), (0, []))
+        self.assertEqual([line.split()[2:] for line in self.picked()[1:]], [["latency:latency=8,jitter=2,toxicity=500", "slow"]])
+
+    def test_toxics_that_are_changed_behind_other_commands(self):
+        added = "toxiproxy-cli toxic add -t latency -a latency=5 -n slow shop\n"
+        for change, call in (
+            ("toxiproxy-cli toxic remove -n slow shop", "toxic remove"),
+            ("toxiproxy-cli toxic update -n slow -a latency=9 shop", "toxic update"),
+            ("curl -X DELETE :8474/proxies/shop/toxics/slow", "DELETE /proxies/shop/toxics/slow"),
+        ):
+            for other in ("./run-tests", "sleep 3", "echo now"):
+                said = [f"line 4: `{call}` changes a proxy while it runs"]
+                self.assertEqual(self.convert(f"{CREATE}{added}{other}\n{change}\n"), (3, said))
+                self.assertEqual(self.picked()[1].split()[2], "latency:latency=5,jitter=0,toxicity=1000")
+                with open(os.path.join(self.folder, "s.toml")) as file:
+                    comment = f"# line 4 has `{call}` of the toxic slow of the proxy shop, behind other commands. It is here as it was before.\n"
+                    self.assertEqual(file.readline(), comment)
+
+    def test_what_would_do_nothing_is_told(self):
+        said = "proxy shop, toxic 1: `rate` is 0, which limits nothing in Toxiproxy: the toxic is left out"
+        self.assertEqual(self.convert_toxic(type="bandwidth", attributes={"rate": 0}), (3, [said]))
+        self.assertEqual(len(self.picked()), 1)
+        self.assertTrue(self.convert_toxic(toxicity=0.0004)[1][0].endswith("0 are taken, so no connection meets the toxic"))
+
+    def test_no_attribute_is_written_that_nobody_gave(self):
+        self.assertEqual(self.convert_toxic(), (0, []))
+        with open(os.path.join(self.folder, "s.toml")) as file:
+            self.assertNotIn("until", file.read())
+
+    def test_files_of_other_kinds(self):
+        for name, kind in (("main_test.go", "a Go file"), ("compose.yaml", "a compose file")):
+            said = f"{name}: {kind} isn't read: give a populate file, what `GET /proxies` answers, or a shell script"
+            self.assertEqual(self.convert("package main\n", names=(name,)), (1, [said]))
 
     def test_what_is_no_setup(self):
         for text in ("", "{", "[1]", "{}", "[]", '{"a": 1}', "echo a", "version = 2"):

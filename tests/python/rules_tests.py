@@ -62,7 +62,7 @@ class WrittenTests(unittest.TestCase):
         toxics = [Latency(latency=1, from_=5), Timeout(from_=6, after=7), Timeout(name="now"), ResetPeer(after=8, timeout=9)]
         text = script_text([Rule("shop", toxics)])
         written = [line for line in text.splitlines() if line.startswith("attributes")]
-        wanted = ["latency = 1, jitter = 0, until = 0, from = 5", "timeout = 0, from = 6, after = 7", "timeout = 0", "timeout = 9, after = 8"]
+        wanted = ["latency = 1, jitter = 0, from = 5", "timeout = 0, from = 6, after = 7", "timeout = 0", "timeout = 9, after = 8"]
         self.assertEqual(written, [f"attributes = {{ {attributes} }}" for attributes in wanted])
         self.assertEqual(repr(toxics[1]), "Timeout(from_=6, after=7)")
         with self.assertWarns(ToxiWarning), Toxi(NOWHERE, [Rule("shop", toxics)]) as toxi:
