@@ -6,6 +6,7 @@
  * TOXI_CONNECT_PAUSE=MS        a connect that has begun returns so many milliseconds later
  * TOXI_REFUSE_POLL=FILE        while this file is there, no descriptor can be watched for events
  * TOXI_REFUSE_MEMORY=FILE      while this file is there, no 4,096 bytes or more can be had
+ * TOXI_REFUSE_THREAD=FILE      while this file is there, only as many more threads can be had as it says
  * TOXI_COUNTS=FILE             a file of two numbers of 64 bits: how often a socket was read, and how often events were waited for
  */
 #define _GNU_SOURCE
@@ -13,8 +14,10 @@
 #include <errno.h>
 #include <fcntl.h>
 #include <netdb.h>
+#include <pthread.h>
 #include <stdatomic.h>
 #include <stdint.h>
+#include <stdio.h>
 #include <stdlib.h>
 #include <string.h>
 #include <sys/epoll.h>
@@ -147,4 +150,24 @@ void *aligned_alloc(size_t alignment, size_t size) {
 int posix_memalign(void **made, size_t alignment, size_t size) {
     REAL(posix_memalign);
     return is_refused(size) ? ENOMEM : real(made, alignment, size);
+}
+
+/* Threads. */
+
+static int most_threads(void) {
+    int most = -1;
+    const char *name = getenv("TOXI_REFUSE_THREAD");
+    FILE *file = name ? fopen(name, "r") : NULL;
+    if (!file) return -1;
+    if (fscanf(file, "%d", &most) != 1) most = -1;
+    fclose(file);
+    return most;
+}
+
+int pthread_create(pthread_t *thread, const pthread_attr_t *attributes, void *(*start)(void *), void *argument) {
+    static atomic_int started;
+    REAL(pthread_create);
+    int most = most_threads();
+    if (most >= 0 && atomic_fetch_add(&started, 1) >= most) return EAGAIN;
+    return real(thread, attributes, start, argument);
 }

@@ -1,6 +1,7 @@
 //! The sockets of served links: their options, how they are cut and shut, the ends of a direction over them, and a link's clock.
 #![tactic(auto)]
 
+mod abort_cause;
 mod bound;
 mod clock;
 mod connection;
@@ -17,6 +18,7 @@ mod spare;
 mod until_cut;
 mod until_due;
 
+pub use abort_cause::AbortCause;
 pub use clock::{LinkStart, SinceStart};
 pub use connection::{Connection, connection_of};
 pub use link_sockets::LinkSockets;

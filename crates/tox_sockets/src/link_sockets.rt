@@ -1,8 +1,9 @@
 //! The two sockets of a served link.
-ghost use Rattle.std.specs.Prelude.{◌≡◌, IfSome, false};
+ghost use Rattle.std.specs.Prelude.{◌≡◌, IfSome, None};
 ghost use Rattle.std.specs.Arc.{arc_value};
 ghost use Rattle.tox_sockets.specs.Streams.{source_of, target_of};
 
+use crate::abort_cause::{AbortCause, NOT_ABORTED};
 use crate::socket_calls::prepare_connection;
 use crate::sockets::Sockets;
 use std::alloc::Global;
@@ -25,8 +26,8 @@ pub struct LinkSockets {
     pub server: TcpStream,
     /// How the link was cut, one of the three above.
     cut: AtomicU32,
-    /// Whether the run was told to stop while the link lived.
-    stopped: AtomicBool,
+    /// The code of why the link was aborted.
+    aborted: AtomicU32,
     /// Whether the client has reset the connection.
     client_reset: AtomicBool,
     /// Whether the upstream has.
@@ -51,7 +52,7 @@ impl LinkSockets {
                 client,
                 server,
                 cut: AtomicU32::new(UNCUT),
-                stopped: AtomicBool::new(false),
+                aborted: AtomicU32::new(NOT_ABORTED),
                 client_reset: AtomicBool::new(false),
                 server_reset: AtomicBool::new(false),
             },
@@ -82,16 +83,26 @@ impl LinkSockets {
             .is_ok()
     }
 
-    /// Ends the link, since the run was told to stop. Nothing more of it is written, a stream of it that ends from now on is
-    /// broken, and both sockets are reset.
-    pub fn stop(&self) {
-        self.stopped.store(true, Ordering::SeqCst);
+    /// Ends the link from inside. Nothing more of it is written, a stream of it that ends from now on is broken for the cause of the
+    /// first abort, and both sockets are reset. That wakes what reads them, so the cause stands before.
+    pub fn abort(&self, cause: AbortCause) {
+        let _ = self.aborted.compare_exchange(
+            NOT_ABORTED,
+            cause.code(),
+            Ordering::SeqCst,
+            Ordering::SeqCst,
+        );
         self.ends_of(Stream::Upstream).reset();
     }
 
-    /// Whether the link was stopped.
-    pub fn is_stopped(&self) -> bool {
-        self.stopped.load(Ordering::SeqCst)
+    /// Why the link was aborted, if it was.
+    pub fn abort_cause(&self) -> Option<AbortCause> {
+        AbortCause::of_code(self.aborted.load(Ordering::SeqCst))
+    }
+
+    /// Whether the link was aborted.
+    pub fn is_aborted(&self) -> bool {
+        self.abort_cause().is_some()
     }
 
     /// The peer that a stream comes from has reset its connection.
@@ -117,7 +128,7 @@ impl LinkSockets {
         ensures link { result.link.now ≡ self.now }
         ensures source { result.source.now ≡ source_of stream self.now }
         ensures target { result.target.now ≡ target_of stream self.now }
-        ensures fresh { result.was_stopped ≡ false }
+        ensures fresh { result.aborted ≡ None }
     {
         let (source, target) = match stream {
             Stream::Upstream => (&self.client, &self.server),
@@ -127,7 +138,7 @@ impl LinkSockets {
             link: self,
             source,
             target,
-            was_stopped: false,
+            aborted: None,
         }
     }
 }

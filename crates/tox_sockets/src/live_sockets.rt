@@ -3,6 +3,7 @@ ghost use Rattle.std.specs.Prelude.{◌≡◌, ◌↔◌, true, Err, IfOk, OnErr
 ghost use Rattle.slab.specs.Slab.{Updates, entries, get};
 ghost use Rattle.tox_sockets.specs.declared.live_sockets.AddFault.TheVariants.{Stopping};
 
+use crate::abort_cause::AbortCause;
 use crate::link_sockets::LinkSockets;
 use crate::socket_calls::stop_listening;
 use slab::Slab;
@@ -24,7 +25,7 @@ impl LiveSocket {
             LiveSocket::Listener(listener) => {
                 let _ = stop_listening(listener);
             }
-            LiveSocket::Link(link) => link.stop(),
+            LiveSocket::Link(link) => link.abort(AbortCause::Stopped),
         }
     }
 }

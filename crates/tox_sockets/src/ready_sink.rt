@@ -22,7 +22,7 @@ use tox_link::{Clock as LinkClock, PollSink};
 use tox_time::{EndFault, Micros, Stream};
 
 /// The target of a stream, a socket that doesn't wait. From the instant by which its plan resets the stream, a write that finds
-/// no room fails, so that a peer that doesn't read can't hold up the reset. Once the link is stopped every write fails.
+/// no room fails, so that a peer that doesn't read can't hold up the reset. Once the link is aborted every write fails.
 #[derive(Drop)]
 pub struct ReadySink<'r, R> {
     rt: &'r R,
@@ -80,17 +80,17 @@ impl<'r, R: Clock> ReadySink<'r, R> {
         news
     }
 
-    /// Fails the sink if its link is stopped. Whether it is.
-    pub fn fail_if_stopped(&mut self) -> bool
+    /// Fails the sink if its link is aborted. Whether it is.
+    pub fn fail_if_aborted(&mut self) -> bool
         ensures { MatchBool result
             (self.new ≡ record self.old { failed = true })
             (self.new ≡ self.old) }
     {
-        let stopped = self.link.is_stopped();
-        if stopped {
+        let aborted = self.link.is_aborted();
+        if aborted {
             self.failed = true;
         }
-        stopped
+        aborted
     }
 
     /// Whether the reset is due at what the clock tells.
@@ -156,7 +156,7 @@ impl<'r, R: Clock> PollSink for ReadySink<'r, R> {
     ghost due = { λ sink. sink.due };
 
     fn poll_write(&mut self, buffers: &[IoSlice<'_>]) -> Result<Option<usize>, EndFault> {
-        if self.link.is_stopped() || (self.full && self.is_due()) {
+        if self.link.is_aborted() || (self.full && self.is_due()) {
             return Err(self.fail());
         }
         if !self.writable {

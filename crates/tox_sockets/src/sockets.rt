@@ -2,6 +2,7 @@
 ghost use Rattle.std.specs.Prelude.{◌≡◌, None};
 ghost use Rattle.tox_sockets.specs.Shutting.{shut_of};
 
+use crate::abort_cause::AbortCause;
 use crate::link_sockets::LinkSockets;
 use crate::socket_calls::{read_now, reset};
 use std::net::{Shutdown, TcpStream};
@@ -17,8 +18,8 @@ pub struct Sockets<'a> {
     pub link: &'a LinkSockets,
     pub source: &'a TcpStream,
     pub target: &'a TcpStream,
-    /// Whether the link was stopped before the stream ended.
-    pub was_stopped: bool,
+    /// Why the link was aborted before the stream ended, if it was.
+    pub aborted: Option<AbortCause>,
 }
 
 /// What is shut where a stream has ended.
@@ -80,7 +81,7 @@ impl<'a> Hangup for Sockets<'a> {
     ghost calls = { λ sockets. None };
 
     fn hang_up(&mut self, ending: Ending, source_ended: bool) {
-        self.was_stopped = self.link.is_stopped();
+        self.aborted = self.link.abort_cause();
         match shut_of(ending, source_ended) {
             Shut::Nothing => {}
             Shut::Writing => self.end_writing(),

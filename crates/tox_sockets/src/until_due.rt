@@ -23,7 +23,7 @@ const MAX_WAIT: u64 = 10;
 
 /// A socket whose writes wait for room until the instant by which its plan resets the stream. From then on a write that finds
 /// no room fails, so that a peer that doesn't read can't hold up the reset. Without an instant a write waits for ever. Once the
-/// link is stopped every write fails, an empty one too, by which a link that waits asks whether it goes on.
+/// link is aborted every write fails, an empty one too, by which a link that waits asks whether it goes on.
 #[derive(Drop)]
 pub struct UntilDue<'a, 'r, R> {
     rt: &'r R,
@@ -98,7 +98,7 @@ fn is_momentary(error: &io::Error) -> bool {
 
 impl<'a, 'r, R: Wait + Clock> Write for UntilDue<'a, 'r, R> {
     fn write(&mut self, bytes: &[u8]) -> io::Result<usize> {
-        if self.link.is_stopped() {
+        if self.link.is_aborted() {
             return Err(ErrorKind::ConnectionReset.into());
         }
         if bytes.is_empty() {

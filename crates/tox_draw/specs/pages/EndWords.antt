@@ -4,6 +4,7 @@ use Rattle.std.specs.Str.{bytes_eq}
 use Rattle.tox_time.specs.declared.streams.stream.Stream.{Stream}
 use Rattle.tox_time.specs.declared.streams.stream.Stream.TheVariants.{Upstream, Downstream}
 use Rattle.tox_log.specs.declared.last_line.BreakCause.{BreakCause}
+use Rattle.tox_log.specs.declared.last_line.BreakCause.TheVariants as CauseOf
 use Rattle.tox_log.specs.LastText.{cause_name}
 use Rattle.tox_draw.specs.declared.pages.stream_end.Cutter.{Cutter}
 use Rattle.tox_draw.specs.declared.pages.stream_end.Cutter.TheVariants.{LimitData, Timeout, ResetPeer, Unsure}
@@ -43,11 +44,17 @@ abbrev pub is_left_open : StreamEnd → Bool
 is_left_open Open = true
 is_left_open other = false
 
--- the words of both ends, if these are the same: else nobody was first
+-- where both streams broke, a failed write is no cause beside another one: what cut the link made it fail. Else nobody was first
+abbrev pub cut_words : StreamEnd → StreamEnd → List ℕ
+cut_words (Broken CauseOf.Write) (Broken cause) = broken_words cause
+cut_words (Broken cause) (Broken CauseOf.Write) = broken_words cause
+cut_words up down = codes "unknown"
+
+-- the words of both ends, if these are the same
 abbrev pub common_words : StreamEnd → StreamEnd → List ℕ
 common_words up down =
     if bytes_eq (end_words up Upstream false) (end_words down Downstream false)
-    then end_words up Upstream false else codes "unknown"
+    then end_words up Upstream false else cut_words up down
 
 -- the words of the earlier end
 abbrev pub earlier_words : StreamEnd → StreamEnd → ℕ → ℕ → List ℕ

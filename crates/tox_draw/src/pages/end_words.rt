@@ -1,7 +1,7 @@
 //! Who ended a link, in words.
 ghost use Rattle.std.specs.Prelude.{◌≡◌};
 ghost use Rattle.tox_draw.specs.pages.StreamEnds.{end_instant_of};
-ghost use Rattle.tox_draw.specs.pages.EndWords.{broken_words, closed_words, common_words, cutter_words, earlier_words, end_words, ended_by, first_words, is_left_open, reset_words, silent_words, unended_words};
+ghost use Rattle.tox_draw.specs.pages.EndWords.{broken_words, closed_words, common_words, cut_words, cutter_words, earlier_words, end_words, ended_by, first_words, is_left_open, reset_words, silent_words, unended_words};
 
 use crate::pages::stream_end::{Cutter, StreamEnd};
 use tox_log::BreakCause;
@@ -76,7 +76,7 @@ fn earlier_words(
     common_words(upstream, downstream)
 }
 
-/// The words of both ends, if these are the same. Else nobody was first.
+/// The words of both ends, if these are the same.
 fn common_words(upstream: &StreamEnd, downstream: &StreamEnd) -> &'static str
     ensures { result.now ≡ common_words upstream.now downstream.now }
 {
@@ -84,7 +84,19 @@ fn common_words(upstream: &StreamEnd, downstream: &StreamEnd) -> &'static str
     if words == end_words(downstream, Stream::Downstream, false) {
         words
     } else {
-        "unknown"
+        cut_words(upstream, downstream)
+    }
+}
+
+/// The words where both streams broke: a failed write is no cause beside another one, as what cut the link made it fail. Else nobody was
+/// first.
+fn cut_words(upstream: &StreamEnd, downstream: &StreamEnd) -> &'static str
+    ensures { result.now ≡ cut_words upstream.now downstream.now }
+{
+    match (upstream, downstream) {
+        (StreamEnd::Broken(BreakCause::Write), StreamEnd::Broken(cause)) => broken_words(*cause),
+        (StreamEnd::Broken(cause), StreamEnd::Broken(BreakCause::Write)) => broken_words(*cause),
+        _ => "unknown",
     }
 }
 

@@ -9,6 +9,8 @@ use Rattle.tox_link.specs.declared.book.BookFault.{BookFault}
 use Rattle.tox_link.specs.declared.link_fault.LinkFault.{LinkFault}
 use Rattle.tox_link.specs.declared.link_fault.LinkFault.TheVariants.{OutOfMemory, SpawnRefused, WriteFault}
 use Rattle.tox_link.specs.book.Links.{changed, with_bytes, with_end}
+use Rattle.tox_sockets.specs.declared.abort_cause.AbortCause.{AbortCause}
+use Rattle.tox_sockets.specs.declared.abort_cause.AbortCause.TheVariants as AbortOf
 use Rattle.tox_serve.specs.declared.link.end.StreamEnd.{StreamEnd}
 use Rattle.tox_serve.specs.declared.link.end.StreamEnd.TheVariants.{Ended, Broken}
 use Rattle.tox_log.specs.declared.last_line.BreakCause.{BreakCause}
@@ -58,15 +60,21 @@ abbrev pub ending_of : StreamEnd → Option Ending
 ending_of (Ended reading ending) = Some ending
 ending_of (Broken cause) = None
 
--- how a stream ended that ended so by its plan, at a reading of its clock: a stop of its link before that breaks it
-abbrev pub end_before_stop : Bool → ℕ → Ending → StreamEnd
-end_before_stop true reading ending = Broken CauseOf.Stopped
-end_before_stop false reading ending = Ended reading ending
+-- why a stream is broken whose link is aborted
+abbrev pub cause_of : AbortCause → BreakCause
+cause_of AbortOf.Stopped = CauseOf.Stopped
+cause_of AbortOf.Memory = CauseOf.Memory
+cause_of AbortOf.Thread = CauseOf.Thread
+
+-- how a stream ended that ended so by its plan, at a reading of its clock: an abort of its link before that breaks it
+abbrev pub end_unless_aborted : Option AbortCause → ℕ → Ending → StreamEnd
+end_unless_aborted (Some abort) reading ending = Broken (cause_of abort)
+end_unless_aborted None reading ending = Ended reading ending
 
 -- what a stream carried that has written so many bytes and that ended so by its plan, at a reading of its clock
-abbrev pub carried_until_end : Stream → ℕ → ℕ → Ending → Bool → Carried
-carried_until_end stream bytes reading ending was_stopped =
-    record { stream = stream; bytes = bytes; end = end_before_stop was_stopped reading ending }
+abbrev pub carried_until_end : Stream → ℕ → ℕ → Ending → Option AbortCause → Carried
+carried_until_end stream bytes reading ending aborted =
+    record { stream = stream; bytes = bytes; end = end_unless_aborted aborted reading ending }
 
 -- the last line of a log whose stream ended so after so many bytes
 abbrev pub last_line_of : ℕ → StreamEnd → LastLine

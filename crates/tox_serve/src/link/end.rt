@@ -1,10 +1,11 @@
 //! How a served link ended, and what the book keeps of it.
 ghost use Rattle.std.specs.Prelude.{◌≡◌};
 ghost use Rattle.tox_time.specs.declared.streams.stream.Stream.TheVariants as StreamOf;
-ghost use Rattle.tox_serve.specs.link.LinkEnds.{broken_link, broken_side, carried_before, carried_link_end, carried_until_end, end_before_stop, ending_of, is_refused, last_line_of, nothing_carried, settled, side_end};
+ghost use Rattle.tox_serve.specs.link.LinkEnds.{broken_link, broken_side, carried_before, carried_link_end, carried_until_end, cause_of, end_unless_aborted, ending_of, is_refused, last_line_of, nothing_carried, settled, side_end};
 
 use tox_link::{Book, LinkFault};
 use tox_log::{BreakCause, LastLine};
+use tox_sockets::AbortCause;
 use tox_time::{Ending, Micros, Stream};
 
 /// How one direction ended.
@@ -38,34 +39,48 @@ pub(crate) struct LinkEnd {
     pub(crate) downstream: SideEnd,
 }
 
+/// Why a stream is broken whose link is aborted.
+fn cause_of(abort: AbortCause) -> BreakCause
+    ensures { result ≡ cause_of abort }
+{
+    match abort {
+        AbortCause::Stopped => BreakCause::Stopped,
+        AbortCause::Memory => BreakCause::Memory,
+        AbortCause::Thread => BreakCause::Thread,
+    }
+}
+
 impl StreamEnd {
-    /// The end of a stream that its plan ended at a reading of its clock. A stop of its link before that breaks it.
-    pub(crate) fn before_stop(was_stopped: bool, reading: Micros, ending: Ending) -> StreamEnd
-        ensures { result ≡ end_before_stop was_stopped reading ending }
+    /// The end of a stream that its plan ended at a reading of its clock. An abort of its link before that breaks it.
+    pub(crate) fn unless_aborted(
+        aborted: Option<AbortCause>,
+        reading: Micros,
+        ending: Ending,
+    ) -> StreamEnd
+        ensures { result ≡ end_unless_aborted aborted reading ending }
     {
-        if was_stopped {
-            StreamEnd::Broken(BreakCause::Stopped)
-        } else {
-            StreamEnd::Ended(reading, ending)
+        match aborted {
+            Some(abort) => StreamEnd::Broken(cause_of(abort)),
+            None => StreamEnd::Ended(reading, ending),
         }
     }
 }
 
 impl Carried {
-    /// What a stream carried that its plan ended at a reading of its clock. A stop of its link before that breaks it.
+    /// What a stream carried that its plan ended at a reading of its clock. An abort of its link before that breaks it.
     pub(crate) fn until_end(
         stream: Stream,
         bytes: u64,
         reading: Micros,
         ending: Ending,
-        was_stopped: bool,
+        aborted: Option<AbortCause>,
     ) -> Carried
-        ensures { result ≡ carried_until_end stream bytes reading ending was_stopped }
+        ensures { result ≡ carried_until_end stream bytes reading ending aborted }
     {
         Carried {
             stream,
             bytes,
-            end: StreamEnd::before_stop(was_stopped, reading, ending),
+            end: StreamEnd::unless_aborted(aborted, reading, ending),
         }
     }
 

@@ -82,6 +82,6 @@ pub(crate) fn note_break<R: Wait>(
     if run.live.is_stopping(rt) {
         return BreakReason::Stopped;
     }
-    run.lines.note_break(rt, links.place, number, reason);
+    run.notices.note_break(rt, links.place, number, reason);
     reason
 }

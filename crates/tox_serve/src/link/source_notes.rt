@@ -10,7 +10,8 @@ use tox_log::StreamNotes;
 use tox_sockets::LinkSockets;
 use tox_time::Stream;
 
-/// The notes of a stream. If the source has reset the connection, its end is noted as a reset.
+/// The notes of a stream. If the source has reset the connection, its end is noted as a reset. Once the link is aborted an end isn't
+/// noted: a reader that the abort wakes reads one that never came.
 #[derive(Drop)]
 pub(crate) struct SourceNotes<'r, R> {
     notes: StreamNotes<'r, R>,
@@ -72,6 +73,9 @@ impl<'r, R: Wait> Notes for SourceNotes<'r, R> {
 
     fn note(&mut self, event: LinkEvent) -> Result<(), AllocError> {
         if let LinkEvent::SourceEnd(_) = &event {
+            if self.sockets.is_aborted() {
+                return Ok(());
+            }
             if self.sockets.was_reset(self.stream) {
                 self.notes.source_was_reset();
             }

@@ -6,28 +6,28 @@ use crate::link::end::Carried;
 use crate::link::source_notes::SourceNotes;
 use std::sync::Wait;
 use tox_link::LinkFault;
-use tox_sockets::LinkSockets;
+use tox_sockets::{AbortCause, LinkSockets};
 use tox_time::{Ending, Micros, Stream};
 
-/// Ends a stream that its plan ended at a reading of its clock, after so many written bytes. `was_stopped`: its link was stopped
-/// before that, which breaks the stream. Returns what it carried.
+/// Ends a stream that its plan ended at a reading of its clock, after so many written bytes. `aborted`: why its link was aborted before
+/// that, which breaks the stream. Returns what it carried.
 pub(crate) fn end_stream<R: Wait>(
     stream: Stream,
     bytes: u64,
     reading: Micros,
     ending: Ending,
-    was_stopped: bool,
+    aborted: Option<AbortCause>,
     notes: &SourceNotes<'_, R>,
 ) -> Carried
-    ensures { result ≡ carried_until_end stream bytes reading ending was_stopped }
+    ensures { result ≡ carried_until_end stream bytes reading ending aborted }
 {
-    let carried = Carried::until_end(stream, bytes, reading, ending, was_stopped);
+    let carried = Carried::until_end(stream, bytes, reading, ending, aborted);
     notes.end(&carried);
     carried
 }
 
-/// Breaks a stream off by a fault. Both sockets are reset, so that the other direction ends too. Returns what the stream carried
-/// before the fault.
+/// Breaks a stream off by a fault. Both sockets are reset, so that the other direction ends too. Refused memory or a refused thread
+/// breaks that one as well. Returns what the stream carried before the fault.
 pub(crate) fn break_stream<R: Wait>(
     link: &LinkSockets,
     stream: Stream,
@@ -36,7 +36,11 @@ pub(crate) fn break_stream<R: Wait>(
 ) -> Carried
     ensures { result ≡ carried_before stream fault.now }
 {
-    link.ends_of(stream).reset();
+    match fault {
+        LinkFault::WriteFault(_) => link.ends_of(stream).reset(),
+        LinkFault::SpawnRefused(_) => link.abort(AbortCause::Thread),
+        LinkFault::OutOfMemory(_) => link.abort(AbortCause::Memory),
+    }
     let carried = Carried::until_fault(stream, fault);
     notes.end(&carried);
     carried

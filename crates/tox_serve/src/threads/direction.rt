@@ -17,7 +17,7 @@ use crate::runtime::ServeRuntime;
 use std::alloc::Global;
 use std::sync::{Arc, Wait};
 use tox_link::{Ends, LinkFault, TimedReport, carry_timed};
-use tox_sockets::{LinkSockets, LinkStart, SinceStart, UntilCut, UntilDue};
+use tox_sockets::{AbortCause, LinkSockets, LinkStart, SinceStart, UntilCut, UntilDue};
 use tox_time::{MAX_BYTES, Real, Stream};
 
 /// One direction of a link, before it is carried.
@@ -109,7 +109,7 @@ pub(crate) fn carry_stream<'a, 'r, R: ServeRuntime>(
         &run.gate,
     );
     let Ends { writer, hangup } = ends;
-    let carried = end_carried(link, stream, &done, hangup.was_stopped, &notes);
+    let carried = end_carried(link, stream, &done, hangup.aborted, &notes);
     CarriedStream { carried, writer }
 }
 
@@ -118,16 +118,16 @@ fn end_carried<S, R: Wait>(
     link: &LinkSockets,
     stream: Stream,
     done: &Result<TimedReport<S>, LinkFault>,
-    was_stopped: bool,
+    aborted: Option<AbortCause>,
     notes: &SourceNotes<'_, R>,
 ) -> Carried
-    ensures { result ≡ carried_after stream was_stopped done.now }
+    ensures { result ≡ carried_after stream aborted done.now }
 {
     match done {
         Ok(timed) => {
             let TimedReport { report, reading } = timed;
             let (bytes, ending) = (report.written, report.ending);
-            end_stream(stream, bytes, *reading, ending, was_stopped, notes)
+            end_stream(stream, bytes, *reading, ending, aborted, notes)
         }
         Err(fault) => break_stream(link, stream, fault, notes),
     }

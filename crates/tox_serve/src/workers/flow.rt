@@ -1,12 +1,13 @@
 //! One direction of a link while it goes on: the step machine and its two ends.
-ghost use Rattle.std.specs.Prelude.{◌≡◌, Bool, true, false, IfSome};
+ghost use Rattle.std.specs.Prelude.{◌≡◌, Option, true, false, IfSome};
 ghost use Rattle.tox_time.specs.Time.{IsInstant};
-ghost use Rattle.tox_link.specs.direction.Follows.{IsHeld, IsNew};
+ghost use Rattle.tox_link.specs.direction.Follows.{AreBegun, IsHeld, IsNew};
 ghost use Rattle.tox_link.specs.declared.link_fault.LinkFault.TheVariants.{OutOfMemory};
 ghost use Rattle.tox_link.specs.declared.source_ending.SourceEnding.TheVariants.{ReadFault as AtFault, ReadsUsedUp as AtLastRead};
 ghost use Rattle.std.proofs.Props.{props};
-ghost use Rattle.tox_serve.specs.workers.Ready.{IsHeld-prop};
+ghost use Rattle.tox_serve.specs.workers.Ready.{AreBegun-prop, IsHeld-prop};
 ghost use Rattle.tox_link.specs.Meaning.{MeansPlan};
+ghost use Rattle.tox_sockets.specs.declared.abort_cause.AbortCause.{AbortCause};
 ghost use Rattle.tox_link.specs.Reports.{is_write_fault};
 ghost use Rattle.tox_serve.specs.link.LinkEnds.{carried_before, carried_until_end, is_write_break};
 
@@ -37,6 +38,7 @@ pub(crate) struct Flow<'r, R> {
     pub(crate) notes: SourceNotes<'r, R>,
     pub(crate) ghost held: { IsHeld link.value } by { IsHeld-prop link.value },
     pub(crate) ghost read: { IsInstant link.value.core.latest },
+    pub(crate) ghost begun: { AreBegun (λ t. IsInstant t) link.value.unwritten.items } by { AreBegun-prop link.value.unwritten.items },
     pub(crate) ghost readable: { link.value.ended ≡ false → source.failed ≡ false },
     pub(crate) ghost failed: { link.value.source ≡ AtFault → source.failed ≡ true } by { Prim.hlevel props },
     pub(crate) ghost unlimited: { ¬ (link.value.source ≡ AtLastRead) },
@@ -92,6 +94,7 @@ impl<'r, R: Clock + Wait> Flow<'r, R> {
     ) -> Flow<'r, R>
         requires held { IsHeld link.value }
         requires read { IsInstant link.value.core.latest }
+        requires begun { AreBegun (λ t. IsInstant t) link.value.unwritten.items }
         requires readable { link.value.ended ≡ false → source.failed ≡ false }
         requires failed { link.value.source ≡ AtFault → source.failed ≡ true }
         requires unlimited { ¬ (link.value.source ≡ AtLastRead) }
@@ -110,7 +113,7 @@ impl<'r, R: Clock + Wait> Flow<'r, R> {
         }
     }
 
-    /// Drives the step machine. Returns the state of the direction after that, and the answer. A direction that would wait at a stopped
+    /// Drives the step machine. Returns the state of the direction after that, and the answer. A direction that would wait at an aborted
     /// link is broken by a write instead, since its next write would fail.
     pub(crate) fn advance(
         self,
@@ -139,7 +142,7 @@ impl<'r, R: Clock + Wait> Flow<'r, R> {
             scratch,
         ) {
             Ok(Progress::Waits(until)) => {
-                if sink.fail_if_stopped() {
+                if sink.fail_if_aborted() {
                     let fault = LinkFault::WriteFault(link.written());
                     let ended = fail(sockets, stream, &fault, &notes, sink);
                     return (DirectionState::Ended(ended), Err(fault));
@@ -225,12 +228,12 @@ fn end<'r, R: Wait>(
     sink: ReadySink<'r, R>,
 ) -> EndedFlow<'r, R>
     requires { sink.failed ≡ false }
-    ensures { (was_stopped : Bool) × (result.carried
-        ≡ carried_until_end stream link.now.written link.now.core.latest ending.now was_stopped) }
+    ensures { (aborted : Option AbortCause) × (result.carried
+        ≡ carried_until_end stream link.now.written link.now.core.latest ending.now aborted) }
 {
     let mut ends = sockets.ends_of(stream);
     ends.hang_up(*ending, link.has_read_all());
     let (bytes, reading) = (link.written(), link.latest());
-    let carried = end_stream(stream, bytes, reading, *ending, ends.was_stopped, notes);
+    let carried = end_stream(stream, bytes, reading, *ending, ends.aborted, notes);
     EndedFlow { carried, sink }
 }
