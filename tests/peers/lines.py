@@ -1,6 +1,8 @@
-"""Options of `serve`, and an output that nobody reads: it holds up no link, and what it loses is told."""
+"""Options of `serve`, and an output that nobody reads: it holds up no link and not the other output, and what it loses is told."""
+import fcntl
 import os
 import re
+import signal
 import socket
 import subprocess
 import time
@@ -86,3 +88,101 @@ def connect_takes_no_longer_than_told(program, folder):
     check(took >= 0.3, f"the connect took {took:.3f} s")
     check_in_time(took < 2, f"the connect took {took:.3f} s")
     check(output == "link shop 1 up 0 broken down 0 broken\ntotal shop 1 up 0 down 0\n", f"it printed `{output}`")
+
+
+@start
+def a_stopped_process_connects_no_longer(program, folder):
+    """The time of a connect goes on while the process doesn't run."""
+    with socket.socket() as upstream, socket.socket() as waits:
+        upstream.bind(("127.0.0.1", 0))
+        upstream.listen(0)
+        waits.connect(upstream.getsockname())
+        proxy = {"name": "shop", "listen": "127.0.0.1:0", "upstream": f"127.0.0.1:{upstream.getsockname()[1]}"}
+        command = [*serve_command(program, folder, [proxy]), "--links", "1", "--connect-timeout", "2000"]
+        with subprocess.Popen(command, stdout=subprocess.PIPE, stderr=subprocess.DEVNULL, text=True) as process:
+            port = int(process.stdout.readline().rpartition(":")[2])
+            since = time.monotonic()
+            with socket.create_connection(("127.0.0.1", port), timeout=LIMIT) as client:
+                time.sleep(0.2)
+                process.send_signal(signal.SIGSTOP)
+                time.sleep(1.5)
+                process.send_signal(signal.SIGCONT)
+                check(client.recv(1) == b"", "bytes of an upstream that wasn't reached")
+            took = time.monotonic() - since
+            process.communicate(timeout=LIMIT)
+    check(took >= 2, f"the connect took {took:.3f} s")
+    check_in_time(took < 2.8, f"the connect took {took:.3f} s")
+
+
+def full_pipe():
+    """Both ends of a pipe that has no room, and how many bytes are in it."""
+    reads, writes = os.pipe()
+    os.set_blocking(writes, False)
+    filled = 0
+    while True:
+        try:
+            filled += os.write(writes, b"x" * 4096)
+        except BlockingIOError:
+            break
+    os.set_blocking(writes, True)
+    return reads, writes, filled
+
+
+def refuse(port, links):
+    """Connects so many clients in turn, whose upstream refuses them."""
+    for _ in range(links):
+        with socket.create_connection(("127.0.0.1", port), timeout=LIMIT) as client:
+            check(client.recv(1) == b"", "bytes of an upstream that wasn't reached")
+
+
+def serve_refused(program, folder, links, **outputs):
+    """Serves so many links, of a proxy whose upstream refuses them."""
+    proxy = {"name": "shop", "listen": "127.0.0.1:0", "upstream": "127.0.0.1:1"}
+    script = '[[rule]]\nproxy = "other"\nfirst = 1\n'
+    return subprocess.Popen([*serve_command(program, folder, [proxy], script), "--links", str(links)], **outputs)
+
+
+@start
+def unread_errors_hold_up_no_line(program, folder):
+    """Standard error is full from the start and nobody reads it. The program has a warning for it, and a broken link."""
+    reads, writes, _ = full_pipe()
+    with serve_refused(program, folder, 3, stdout=subprocess.PIPE, stderr=writes, text=True) as process:
+        try:
+            port = int(process.stdout.readline().rpartition(":")[2])
+            refuse(port, 3)
+            since = time.monotonic()
+            output, _ = process.communicate(timeout=LIMIT)
+        finally:
+            process.kill()
+        took = time.monotonic() - since
+    os.close(reads)
+    os.close(writes)
+    want = "".join(f"link shop {number} up 0 broken down 0 broken\n" for number in (1, 2, 3)) + "total shop 3 up 0 down 0\n"
+    check(output == want, f"it printed `{output}`")
+    check(process.returncode == 0, f"it ended with status {process.returncode}")
+    check_in_time(took < 2, f"it ended {took:.3f} s after its last link")
+
+
+@start
+def unread_lines_hold_up_no_error(program, folder):
+    """Standard output is full once it listens, and nobody reads it for a while."""
+    reads, writes = os.pipe()
+    fcntl.fcntl(writes, fcntl.F_SETPIPE_SZ, 4096)
+    with serve_refused(program, folder, 200, stdout=writes, stderr=subprocess.PIPE, text=True) as process:
+        os.close(writes)
+        try:
+            port = int(os.read(reads, 100).decode().partition("\n")[0].rpartition(":")[2])
+            warning = process.stderr.readline()
+            refuse(port, 1)
+            first = process.stderr.readline()
+            refuse(port, 199)
+            more = process.stderr.readline()
+            with open(reads) as file:
+                lines = file.read().splitlines()
+            check(process.wait(LIMIT) == 0, f"it ended with status {process.returncode}")
+        finally:
+            process.kill()
+    check(warning.startswith("toxi: warning: rule 1 never applies"), f"it warned `{warning}`")
+    check(first == "toxi: broken shop 1: upstream 127.0.0.1:1: connection refused\n", f"it told `{first}`")
+    check(re.fullmatch(r"toxi: broken shop 2: upstream 127.0.0.1:1: connection refused, and \d+ more\n", more), f"it told `{more}`")
+    check(lines[-1] == "total shop 200 up 0 down 0", f"the last line is `{lines[-1]}`")

@@ -33,9 +33,9 @@ class Engine:
 
     @classmethod
     def threads_at_rest(cls):
-        """The threads of a process without links: the first one, the one that serves, the proxy's, the lines' one, the logs' one, and
-        the workers."""
-        return 4 + cls.logs + (cls.workers or 0)
+        """The threads of a process without links: the first one, the one that serves, the proxy's, those of lines and of notices, the
+        logs' one, and the workers."""
+        return 5 + cls.logs + (cls.workers or 0)
 
 
 def address(host, port):

@@ -143,7 +143,7 @@ pub(crate) const SERVE: CommandForm = CommandForm {
         // How links are served.
         Argument {
             name: "links",
-            help: "After how many connections each proxy stops listening, 1 to 1000000 [default: it goes on]",
+            help: "After how many connections each proxy stops listening, 1 to 1000000 [default: it goes on to 1000000]",
             ..CONNECTIONS
         },
         Argument {

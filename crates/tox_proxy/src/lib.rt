@@ -19,8 +19,9 @@ pub use tox_runs::{
     stages_run,
 };
 pub use tox_serve::{
-    BrokenText, LineForm, NoNotices, Notices, Room, ServeFault, ServeOptions, ServeRuntime, Stop,
-    WaitFault, listen_address, serve, serve_with, tells_to_stop, wait_until_ready,
+    BrokenText, FilledText, LineForm, NoNotices, NoticeChannel, Notices, Room, ServeFault,
+    ServeOptions, ServeRuntime, Stop, WaitFault, listen_address, serve, serve_with, tell_waiting,
+    tells_to_stop, wait_until_ready,
 };
 pub use tox_text::{
     DryFault, JsonField, JsonItem, JsonValue, PrintMigratedFault, PrintPickFault, VisibleName,

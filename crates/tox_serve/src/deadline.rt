@@ -18,6 +18,17 @@ impl Deadline {
         Deadline { at }
     }
 
+    /// The milliseconds that are left, rounded up. 0 once none is.
+    pub(crate) fn left_millis<R: Clock>(self, rt: &R) -> i32 {
+        let left = self.left(rt);
+        if left.is_zero() {
+            return 0;
+        }
+        i32::try_from(left.as_millis())
+            .unwrap_or(i32::MAX)
+            .saturating_add(1)
+    }
+
     /// The time that is left.
     pub(crate) fn left<R: Clock>(self, rt: &R) -> Duration {
         match (self.at, Instant::now(rt)) {

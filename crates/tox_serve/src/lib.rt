@@ -3,6 +3,7 @@
 #![tactic(auto)]
 
 mod addresses;
+mod deadline;
 mod descriptors;
 mod fault;
 mod link;
@@ -24,7 +25,9 @@ mod workers;
 pub use addresses::listen_address;
 pub use fault::ServeFault;
 pub use options::ServeOptions;
-pub use output::{BrokenText, LineForm, NoNotices, Notices};
+pub use output::{
+    BrokenText, FilledText, LineForm, NoNotices, NoticeChannel, Notices, tell_waiting,
+};
 pub use room::Room;
 pub use runtime::ServeRuntime;
 pub use serving::{serve, serve_with};

@@ -32,11 +32,12 @@ impl<'a, R: Wait> Room<'a, R> {
         }
     }
 
-    /// Waits for room, in short turns. Once told to stop, all calls together wait 400 milliseconds, and those that find no room then
-    /// return false.
+    /// Waits for room, in short turns. Once told to stop, all calls behind one that found room together wait 400 milliseconds, and those
+    /// that find no room then return false.
     pub fn wait(&self) -> bool {
         for _ in self.rt.forever() {
             if can_write(self.fd, TURN) {
+                self.turns.store(STOPPING_TURNS, Ordering::SeqCst);
                 return true;
             }
             if self.stop.is_requested(self.rt) && !self.takes_a_turn() {

@@ -1,7 +1,7 @@
 //! What all links of a run of `serve` share.
 use crate::descriptors::Descriptors;
 use crate::options::ServeOptions;
-use crate::output::LineChannel;
+use crate::output::{LineChannel, NoticeChannel};
 use crate::stop::Stop;
 use std::alloc::Global;
 use std::sync::Arc;
@@ -22,6 +22,8 @@ pub(crate) struct ServeRun<'a> {
     pub(crate) logs: &'a Option<RunLogs>,
     /// Where lines go.
     pub(crate) lines: &'a LineChannel,
+    /// Where goes what is told beside them.
+    pub(crate) notices: &'a NoticeChannel,
     pub(crate) gate: Arc<OpenGate, Global>,
     pub(crate) stop: &'a Stop,
     /// What is stopped once the run is told to end.

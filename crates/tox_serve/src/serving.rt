@@ -6,7 +6,10 @@ ghost use Rattle.tox_serve.specs.Serving.{HasServeCause};
 use crate::descriptors::Descriptors;
 use crate::fault::ServeFault;
 use crate::options::ServeOptions;
-use crate::output::{LineChannel, LineQueue, NoNotices, Notices, print_listening, write_lines};
+use crate::output::{
+    LineChannel, LineQueue, NoNotices, NoticeChannel, Notices, print_listening, tell_notices,
+    write_lines,
+};
 use crate::proxy::listening::{Listening, listen_all};
 use crate::ready::{listen_ready, start_ready};
 use crate::run::ServeRun;
@@ -27,6 +30,22 @@ use tox_log::{LogFiles, NoLogs, RunLogs, write_logs};
 use tox_script::Script;
 use tox_sockets::LiveSockets;
 use tox_time::OpenGate;
+
+/// The addresses that are listened at: those of the proxies, and the one for probes if there is one.
+#[derive(Drop)]
+struct BoundAddresses<'a> {
+    listening: Vec<Listening<'a>>,
+    ready: Option<Arc<TcpListener, Global>>,
+}
+
+/// Empty queues: of the thread that writes the lines, and of the one that tells notices.
+#[derive(Drop)]
+struct Queues {
+    empty: LineQueue,
+    untold: LineQueue,
+    ghost no_line: { empty ≡ no_lines },
+    ghost nothing: { untold ≡ no_lines },
+}
 
 /// [`serve_with`], with this limit of links and no other option. Nobody is notified of dropped lines and broken links.
 pub fn serve<
@@ -53,6 +72,9 @@ pub fn serve<
     ensures fault { IfErr result (HasServeCause proxies.now false) }
 {
     let options = ServeOptions::with_links(links);
+    let Ok(channel) = NoticeChannel::new(alloc, proxies.len()) else {
+        return Err(ServeFault::OutOfMemory);
+    };
     serve_with(
         rt,
         alloc,
@@ -60,6 +82,7 @@ pub fn serve<
         script,
         seed,
         out,
+        &channel,
         &NoNotices,
         &Stop::new(),
         &NoLogs,
@@ -73,8 +96,12 @@ pub fn serve<
 ///
 /// One thread writes the lines, so a writer that waits holds up no link. At most 65,536 bytes of lines wait for it. A link's
 /// line that finds no room is dropped, and the gap is reported once the lines before it are written. The other lines wait for room.
-/// Lines that the writer fails to take are dropped without a word, and later ones are tried again. Of the links of a proxy that break for
-/// one kind of reason the first is reported at once, and then at most one a second with how many more.
+/// Lines that the writer fails to take are dropped without a word, and later ones are tried again.
+///
+/// Another thread tells `notices` what comes through `channel`, an open one for as many proxies: gaps, broken links, full books, and what
+/// others send. Of the links of a proxy that break for one kind of reason the first is reported at once, and then at most one a second
+/// with how many more. Neither of the two threads waits for the other. Once all else has ended, `notices` is told so, and the channel is
+/// closed. After a fault the caller may tell what waits by [`tell_waiting`](crate::tell_waiting).
 ///
 /// With `options.ready` an address listens once those of all proxies do, until the last proxy has ended or the run is told to stop. One
 /// more thread closes each connection that comes there. No such connection is counted or reported.
@@ -114,6 +141,7 @@ pub fn serve_with<
     script: &Script,
     seed: u64,
     out: &Mutex<W>,
+    channel: &NoticeChannel,
     notices: &N,
     stop: &Stop,
     files: &L,
@@ -131,10 +159,10 @@ pub fn serve_with<
     let Ok(gate) = Arc::new(alloc, OpenGate) else {
         return Err(ServeFault::OutOfMemory);
     };
-    let Ok(lines) = LineChannel::new(alloc, proxies.len()) else {
+    let Ok(lines) = LineChannel::new(alloc) else {
         return Err(ServeFault::OutOfMemory);
     };
-    let Ok(empty) = LineQueue::new(alloc) else {
+    let (Ok(empty), Ok(untold)) = (LineQueue::new(alloc), LineQueue::new(alloc)) else {
         return Err(ServeFault::OutOfMemory);
     };
     let logs = logs_of(alloc, options);
@@ -145,6 +173,7 @@ pub fn serve_with<
         options: *options,
         logs: &logs,
         lines: &lines,
+        notices: channel,
         gate,
         stop,
         live: &live,
@@ -154,9 +183,9 @@ pub fn serve_with<
     // The links have both from the run alone.
     prove!(run.seed == seed);
     prove!(run.options == *options);
-    if serve_and_write(
-        rt, &run, listening, ready, empty, out, proxies, notices, files,
-    ) {
+    let bound = BoundAddresses { listening, ready };
+    let queues = Queues { empty, untold };
+    if serve_and_tell(rt, &run, bound, queues, out, proxies, notices, files) {
         Ok(())
     } else {
         Err(ServeFault::SpawnRefused)
@@ -173,22 +202,56 @@ fn logs_of(alloc: Global, options: &ServeOptions<'_>) -> Option<RunLogs>
     }
 }
 
-/// Serves the proxies beside a thread that writes the lines, one that writes the logs if any are kept, and one that answers probes if
-/// there is an address for them. False if a thread is refused: then no connection of a proxy is taken.
-fn serve_and_write<R: ServeRuntime, W: Write + Send, N: Notices + Sync, L: LogFiles + Sync>(
+/// Serves the proxies beside a thread that tells what comes through the channel of notices. False if a thread is refused: then no
+/// connection of a proxy is taken.
+fn serve_and_tell<R: ServeRuntime, W: Write + Send, N: Notices + Sync, L: LogFiles + Sync>(
     rt: &R,
     run: &ServeRun<'_>,
-    listening: Vec<Listening<'_>>,
-    ready: Option<Arc<TcpListener, Global>>,
-    empty: LineQueue,
+    bound: BoundAddresses<'_>,
+    queues: Queues,
     out: &Mutex<W>,
     proxies: &[ProxyDef],
     notices: &N,
     files: &L,
+) -> bool {
+    let channel = run.notices;
+    let Queues { empty, untold } = queues;
+    thread::scope(
+        thread::scope_env(),
+        rt,
+        |scope| -> bool
+            requires empty { empty ≡ no_lines }
+            requires untold { untold ≡ no_lines }
+        {
+            let teller = scope.spawn(
+                move ||
+                    requires { untold ≡ no_lines }
+                { tell_notices(rt, channel, untold, proxies, notices) },
+            );
+            // What was sent before comes before the first line.
+            channel.settle(rt);
+            let served = teller.is_ok() && serve_and_write(rt, run, bound, empty, out, files);
+            notices.ending();
+            channel.close(rt);
+            served
+        },
+    )
+}
+
+/// Serves the proxies beside a thread that writes the lines, one that writes the logs if any are kept, and one that answers probes if
+/// there is an address for them. False if a thread is refused: then no connection of a proxy is taken.
+fn serve_and_write<R: ServeRuntime, W: Write + Send, L: LogFiles + Sync>(
+    rt: &R,
+    run: &ServeRun<'_>,
+    bound: BoundAddresses<'_>,
+    empty: LineQueue,
+    out: &Mutex<W>,
+    files: &L,
 ) -> bool
     requires { empty ≡ no_lines }
 {
-    let lines = run.lines;
+    let (lines, notices) = (run.lines, run.notices);
+    let BoundAddresses { listening, ready } = bound;
     thread::scope(
         thread::scope_env(),
         rt,
@@ -198,7 +261,7 @@ fn serve_and_write<R: ServeRuntime, W: Write + Send, N: Notices + Sync, L: LogFi
             let writer = scope.spawn(
                 move ||
                     requires { empty ≡ no_lines }
-                { write_lines(rt, lines, empty, out, proxies, notices) },
+                { write_lines(rt, lines, empty, out, notices) },
             );
             if writer.is_err() {
                 return false;

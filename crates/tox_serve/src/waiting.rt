@@ -3,13 +3,12 @@ ghost use Rattle.std.specs.Prelude.{◌≡◌, true, OnOk, IfErr};
 ghost use Rattle.tox_config.specs.Address.{is_address};
 ghost use Rattle.tox_serve.specs.Waiting.{HasWaitCause};
 
-mod deadline;
 mod fault;
 mod timed_look_up;
 
 use crate::addresses::connect_address;
+use crate::deadline::Deadline;
 use crate::runtime::ServeRuntime;
-use crate::waiting::deadline::Deadline;
 use crate::waiting::timed_look_up::{LookUpFault, look_up_within};
 pub use fault::WaitFault;
 use mio::net::TcpStream as BegunStream;

@@ -2,6 +2,7 @@
 ghost use Rattle.std.specs.Prelude.{◌≤◌, length, take};
 ghost use Rattle.std.specs.Io.KnownBytes.{Appends};
 
+use crate::notices::send_notice;
 use crate::shutdown::Shutdown;
 use std::fs::OpenOptions;
 use std::io::Write;
@@ -9,7 +10,7 @@ use std::rt::Files;
 use std::sync::Wait;
 use std::{fs, io};
 use thiserror::Error;
-use tox_proxy::{LogFiles, Room, VisibleName};
+use tox_proxy::{LogFiles, NoticeChannel, VisibleName};
 
 /// The folder of logs isn't taken.
 #[derive(Clone, Copy, Debug, Error)]
@@ -21,12 +22,12 @@ pub struct LogRefused<'a>(pub &'a str);
 pub struct LogFolder<'a, R> {
     pub rt: &'a R,
     pub folder: Option<&'a str>,
-    /// The room of standard error.
-    pub room: Room<'a, R>,
+    /// Where it is told that a log ends.
+    pub channel: &'a NoticeChannel,
     pub shutdown: &'a Shutdown,
 }
 
-impl<'a, R: Files + AllocGlobal + Eprint + Wait> LogFolder<'a, R> {
+impl<'a, R: Files + AllocGlobal + Wait> LogFolder<'a, R> {
     /// Makes the file of a log to append to it. Where something has its name, it isn't opened.
     fn make(&self, name: &str) -> io::Result<R::File> {
         let path = self.path_of(name)?;
@@ -67,7 +68,7 @@ impl<'a, R: Files + AllocGlobal + Eprint + Wait> LogFolder<'a, R> {
     }
 }
 
-impl<'a, R: Files + AllocGlobal + Eprint + Wait> LogFiles for LogFolder<'a, R> {
+impl<'a, R: Files + AllocGlobal + Wait> LogFiles for LogFolder<'a, R> {
     fn create(&self, name: &str, bytes: &[u8]) -> usize {
         self.write(self.make(name), bytes)
     }
@@ -77,11 +78,10 @@ impl<'a, R: Files + AllocGlobal + Eprint + Wait> LogFiles for LogFolder<'a, R> {
     }
 
     fn ended(&self, name: &str, lines: u64) {
-        if !self.room.wait() {
-            return;
-        }
         let rt = self.rt;
-        let _ = eprintln!(rt; "toxi: log {name} ends at line {lines}");
+        if let Ok(text) = format!(in rt.alloc(); "log {name} ends at line {lines}") {
+            send_notice(rt, self.channel, &text);
+        }
     }
 }
 

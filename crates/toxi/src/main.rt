@@ -20,6 +20,7 @@ mod log_folder;
 mod log_names;
 mod migrate;
 mod near;
+mod notices;
 mod output;
 mod piped_output;
 mod plan;

@@ -6,10 +6,11 @@ use crate::files_status::{FileNames, fail_files};
 use crate::folder::make_folder;
 use crate::kept_files::KeptFiles;
 use crate::log_folder::{LogFolder, LogRefused};
+use crate::notices::{PrintedNotices, send_notice};
 use crate::output::PatientOutput;
 use crate::reasons::{listen_reason, printed, text_of};
 use crate::shutdown::Shutdown;
-use crate::warning_lines::tell_warnings;
+use crate::warning_lines::send_warnings;
 use crate::warnings::print_warnings;
 use std::alloc::Global;
 use std::fmt::Display;
@@ -20,15 +21,12 @@ use std::time::Clock;
 use tox_arguments::{ServeArguments, ServeSource};
 use tox_explain::Inputs;
 use tox_proxy::{
-    BrokenText, InlineFault, Notices, Room, ServeFault, ServeOptions, ServeRuntime, Setup,
-    find_proxy, inline_setup, read_setup, serve_with,
+    InlineFault, NoticeChannel, ServeFault, ServeOptions, ServeRuntime, Setup, Stop, find_proxy,
+    inline_setup, read_setup, serve_with, tell_waiting,
 };
 
 /// A file that gives and takes nothing.
 const NOTHING: &str = "/dev/null";
-
-/// The descriptor of standard error.
-const ERRORS: i32 = 2;
 
 /// A file that takes the number of a standard descriptor that was closed at the start. Else a socket takes it, and the
 /// lines go to its peer.
@@ -204,17 +202,30 @@ where
             return refused(rt, job, nowhere, printed(rt, &reason), &LogRefused(folder));
         }
     }
-    let seed = seed_of(rt, job, shutdown);
+    let Ok(channel) = NoticeChannel::new(rt.alloc(), setup.proxies.len()) else {
+        return refused(
+            rt,
+            job,
+            RefusedAddress::none(),
+            None,
+            &ServeFault::OutOfMemory,
+        );
+    };
+    let ended = Stop::new();
+    let notices = PrintedNotices::new(rt, &ended);
+    let seed = seed_of(rt, job, &channel);
     if !job.quiet {
-        tell_warnings(rt, setup, Room::new(rt, &shutdown.stop, ERRORS));
+        send_warnings(rt, setup, &channel);
     }
     if job.options.verbose {
         // A warning that can't be printed is no reason not to serve.
         let _ = print_warnings(rt, setup, job.options.form, shutdown);
     }
-    let Err(fault) = serve_proxies(rt, setup, job, seed, shutdown) else {
+    let Err(fault) = serve_proxies(rt, setup, job, seed, shutdown, &channel, &notices) else {
         return 0;
     };
+    // What was sent before is told before the fault.
+    let _ = tell_waiting(rt, rt.alloc(), &channel, &setup.proxies, &notices);
     let refusal = RefusedAddress::of(setup, job, &fault);
     let reason = if job.explaining.needs_inputs() {
         let address = refusal.listen.or(refusal.ready);
@@ -226,13 +237,17 @@ where
 }
 
 /// The seed that is given, or else one that is drawn and reported on standard error.
-fn seed_of<R: Eprint + Files + Wait + Clock>(rt: &R, job: &ServeJob, shutdown: &Shutdown) -> u64 {
+fn seed_of<R: AllocGlobal + Files + Wait + Clock>(
+    rt: &R,
+    job: &ServeJob,
+    channel: &NoticeChannel,
+) -> u64 {
     if let Some(seed) = job.seed {
         return seed;
     }
     let seed = any_seed(rt);
-    if Room::new(rt, &shutdown.stop, ERRORS).wait() {
-        let _ = eprintln!(rt; "toxi: seed {seed}");
+    if let Ok(text) = format!(in rt.alloc(); "seed {seed}") {
+        send_notice(rt, channel, &text);
     }
     seed
 }
@@ -308,31 +323,6 @@ fn explain_refusal<'x, R: Eprint + AllocGlobal, F: Display>(
     explaining.explain(rt, fault, &inputs);
 }
 
-/// Tells on standard error how many lines were dropped, and why links broke.
-#[derive(Drop)]
-struct PrintedNotices<'a, R> {
-    rt: &'a R,
-    room: Room<'a, R>,
-}
-
-impl<'a, R: Eprint + Wait> Notices for PrintedNotices<'a, R> {
-    fn dropped(&self, lines: u64) {
-        if !self.room.wait() {
-            return;
-        }
-        let ending = if lines == 1 { "" } else { "s" };
-        let rt = self.rt;
-        let _ = eprintln!(rt; "toxi: {lines} line{ending} dropped: the output wasn't read");
-    }
-
-    fn broken(&self, text: &BrokenText<'_>) {
-        if self.room.wait() {
-            let rt = self.rt;
-            let _ = eprintln!(rt; "toxi: {text}");
-        }
-    }
-}
-
 /// Serves the proxies of the files.
 fn serve_proxies<'a, R: Print + Eprint + Files + AllocGlobal + ServeRuntime>(
     rt: &R,
@@ -340,6 +330,8 @@ fn serve_proxies<'a, R: Print + Eprint + Files + AllocGlobal + ServeRuntime>(
     job: &ServeJob,
     seed: u64,
     shutdown: &Shutdown,
+    channel: &NoticeChannel,
+    notices: &PrintedNotices<'_, R>,
 ) -> Result<(), ServeFault<'a>>
 where
     R::File: Send + 'static,
@@ -347,14 +339,10 @@ where
 {
     let stop = &shutdown.stop;
     let out = Mutex::new(PatientOutput::new(rt, shutdown));
-    let notices = PrintedNotices {
-        rt,
-        room: Room::new(rt, stop, ERRORS),
-    };
     let files = LogFolder {
         rt,
         folder: job.folder(),
-        room: Room::new(rt, stop, ERRORS),
+        channel,
         shutdown,
     };
     serve_with(
@@ -364,7 +352,8 @@ where
         &setup.script,
         seed,
         &out,
-        &notices,
+        channel,
+        notices,
         stop,
         &files,
         &job.options(),

@@ -1,70 +1,71 @@
 //! What `toxi check` says of what is served, on standard error.
+use crate::notices::send_notice;
 use std::io;
-use std::io::{ErrorKind, Write};
+use std::io::Write;
 use std::sync::Wait;
-use tox_proxy::{Room, Setup, print_check};
+use tox_proxy::{NoticeChannel, Setup, print_check};
 use tox_time::Real;
 
 /// How many warnings are reported.
 const MAX_WARNINGS: u64 = 20;
 
-/// Prints the first warnings of what is set up, and how many more there are. What can't be printed is no reason not to serve.
-pub fn tell_warnings<R: Eprint + AllocGlobal + Wait>(rt: &R, setup: &Setup, room: Room<'_, R>) {
+/// Sends the first warnings of what is set up, and how many more there are. What can't be sent is no reason not to serve.
+pub fn send_warnings<R: AllocGlobal + Wait>(rt: &R, setup: &Setup, channel: &NoticeChannel) {
     let mut lines = WarningLines {
         rt,
-        room,
+        channel,
         line: Vec::new(rt.alloc()),
         reported: 0,
     };
     let checked = print_check(rt.alloc(), &mut Real::new(&mut lines), setup, false);
     if let Ok(count) = checked {
-        lines.tell_more(count.saturating_sub(MAX_WARNINGS));
+        lines.send_more(count.saturating_sub(MAX_WARNINGS));
     }
 }
 
-/// A writer of lines that tells the first ones.
+/// A writer of lines that sends the first ones.
 #[derive(Drop)]
 struct WarningLines<'a, R> {
     rt: &'a R,
-    room: Room<'a, R>,
+    channel: &'a NoticeChannel,
     /// The line that is being written.
     line: Vec<u8>,
     /// How many lines were reported.
     reported: u64,
 }
 
-impl<'a, R: Eprint + Wait> WarningLines<'a, R> {
+impl<'a, R: AllocGlobal + Wait> WarningLines<'a, R> {
     fn take(&mut self, byte: u8) -> io::Result<()> {
         if byte == b'\n' {
-            self.tell()
+            self.send();
+            Ok(())
         } else {
             Ok(self.line.push(byte)?)
         }
     }
 
-    /// Tells the line. Fails if the program is told to end before there is room for it.
-    fn tell(&mut self) -> io::Result<()> {
-        if !self.room.wait() {
-            return Err(ErrorKind::TimedOut.into());
-        }
+    fn send(&mut self) {
+        let rt = self.rt;
         if let Ok(line) = str::from_utf8(&self.line) {
-            let rt = self.rt;
-            let _ = eprintln!(rt; "toxi: warning: {line}");
+            if let Ok(text) = format!(in rt.alloc(); "warning: {line}") {
+                send_notice(rt, self.channel, &text);
+            }
         }
         self.line.clear();
         self.reported = self.reported.saturating_add(1);
-        Ok(())
     }
 
-    fn tell_more(&self, count: u64) {
-        if count > 0 && self.room.wait() {
+    fn send_more(&self, count: u64) {
+        if count > 0 {
             let rt = self.rt;
-            let _ = eprintln!(rt; "toxi: warning: and {count} more");
+            if let Ok(text) = format!(in rt.alloc(); "warning: and {count} more") {
+                send_notice(rt, self.channel, &text);
+            }
         }
     }
 }
 
-impl<'a, R: Eprint + Wait> Write for WarningLines<'a, R> {
+impl<'a, R: AllocGlobal + Wait> Write for WarningLines<'a, R> {
     fn write(&mut self, buf: &[u8]) -> io::Result<usize> {
         for byte in buf {
             if self.reported < MAX_WARNINGS {

@@ -9,7 +9,7 @@ use std::thread;
 use std::thread::Threads;
 use std::time::Clock;
 use tox_proxy::{
-    NoLogs, NoNotices, ServeFault, ServeOptions, Setup, Stop, WaitFault, serve_with,
+    NoLogs, NoNotices, NoticeChannel, ServeFault, ServeOptions, Setup, Stop, WaitFault, serve_with,
     wait_until_ready,
 };
 
@@ -57,8 +57,11 @@ fn run<
     };
     let (alloc, proxies, script) = (rt.alloc(), setup.proxies.as_slice(), &setup.script);
     let stop = Stop::new();
+    let Ok(channel) = NoticeChannel::new(alloc, proxies.len()) else {
+        return Err(ServeFault::OutOfMemory);
+    };
     serve_with(
-        rt, alloc, proxies, script, 1, lines, &NoNotices, &stop, &NoLogs, &options,
+        rt, alloc, proxies, script, 1, lines, &channel, &NoNotices, &stop, &NoLogs, &options,
     )
 }
 

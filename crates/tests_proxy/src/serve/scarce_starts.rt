@@ -1,5 +1,5 @@
-//! The start of serving, with too little memory and too few threads: the queues of lines, the thread that writes them, the address for
-//! probes with its thread, and the thread of a proxy.
+//! The start of serving, with too little memory and too few threads: the queues of lines, the threads that tell notices and write the
+//! lines, the address for probes with its thread, and the thread of a proxy.
 use crate::comparing::assert_equal;
 use crate::serve::probes::free_address;
 use crate::setups::setup_of;
@@ -10,16 +10,18 @@ use std::test::Fail;
 use std::thread::Threads;
 use std::time::Clock;
 use tests_support::{Refusals, Scarcity, Tried, try_each, with_stacks};
-use tox_proxy::{NoLogs, NoNotices, ServeFault, ServeOptions, Setup, Stop, serve_with};
+use tox_proxy::{
+    NoLogs, NoNotices, NoticeChannel, ServeFault, ServeOptions, Setup, Stop, serve_with,
+};
 
 /// Room for all lines.
 const OUT_SIZE: usize = 1_024;
 
-/// Two queues of 65,536 bytes take at least so many pages.
-const QUEUE_PAGES: usize = 2 * 16;
+/// Three queues of 65,536 bytes take at least so many pages.
+const QUEUE_PAGES: usize = 3 * 16;
 
 /// More pages than a start needs.
-const PAGES: usize = 120;
+const PAGES: usize = 140;
 
 const CONFIG: &str = "[{\"name\":\"a\",\"listen\":\"127.0.0.1:0\",\"upstream\":\"127.0.0.1:1\"}]";
 
@@ -69,9 +71,10 @@ fn serve_with_pages<
         ready,
         ..ServeOptions::default()
     };
+    let channel = NoticeChannel::new(alloc, proxies.len()).expect(rt, "memory");
     scarcity.leave_pages(alloc, pages).expect(rt, "memory");
     let answer = serve_with(
-        rt, alloc, proxies, script, 1, &out, &NoNotices, &stop, &NoLogs, &options,
+        rt, alloc, proxies, script, 1, &out, &channel, &NoNotices, &stop, &NoLogs, &options,
     );
     scarcity.end();
     tried_of(&answer, &out.into_inner())
@@ -106,21 +109,27 @@ fn compare(rt: &(impl Abort + Eprint), refusals: &Refusals, last: Tried) {
 
 #[test]
 fn the_queues_of_lines_are_refused_memory(rt: HostRuntime) -> Result<(), Fail> {
-    let refusals = start_behind(&rt, 3, None)?;
+    let refusals = start_behind(&rt, 4, None)?;
     compare(&rt, &refusals, Tried::Answered);
     assert!(rt; refusals.memory >= QUEUE_PAGES);
     Ok(())
 }
 
 #[test]
-fn the_writer_of_lines_is_refused(rt: HostRuntime) -> Result<(), Fail> {
+fn what_tells_notices_is_refused_its_thread(rt: HostRuntime) -> Result<(), Fail> {
     compare(&rt, &start_behind(&rt, 0, None)?, Tried::NoThread);
     Ok(())
 }
 
 #[test]
-fn a_proxy_is_refused_its_thread(rt: HostRuntime) -> Result<(), Fail> {
+fn the_writer_of_lines_is_refused(rt: HostRuntime) -> Result<(), Fail> {
     compare(&rt, &start_behind(&rt, 1, None)?, Tried::NoThread);
+    Ok(())
+}
+
+#[test]
+fn a_proxy_is_refused_its_thread(rt: HostRuntime) -> Result<(), Fail> {
+    compare(&rt, &start_behind(&rt, 2, None)?, Tried::NoThread);
     Ok(())
 }
 
@@ -128,7 +137,7 @@ fn a_proxy_is_refused_its_thread(rt: HostRuntime) -> Result<(), Fail> {
 fn an_address_for_probes_is_refused_memory(rt: HostRuntime) -> Result<(), Fail> {
     compare(
         &rt,
-        &start_behind(&rt, 4, Some(&free_address(&rt)))?,
+        &start_behind(&rt, 5, Some(&free_address(&rt)))?,
         Tried::Answered,
     );
     Ok(())
@@ -138,7 +147,7 @@ fn an_address_for_probes_is_refused_memory(rt: HostRuntime) -> Result<(), Fail> 
 fn what_answers_probes_is_refused_its_thread(rt: HostRuntime) -> Result<(), Fail> {
     compare(
         &rt,
-        &start_behind(&rt, 1, Some(&free_address(&rt)))?,
+        &start_behind(&rt, 2, Some(&free_address(&rt)))?,
         Tried::NoThread,
     );
     Ok(())

@@ -9,7 +9,9 @@ use std::sync::{Mutex, Wait};
 use std::thread;
 use std::thread::Threads;
 use std::time::{Clock, Duration};
-use tox_proxy::{NoLogs, NoNotices, ServeFault, ServeOptions, Setup, Stop, serve, serve_with};
+use tox_proxy::{
+    NoLogs, NoNotices, NoticeChannel, ServeFault, ServeOptions, Setup, Stop, serve, serve_with,
+};
 
 /// Three bytes pass downstream.
 const THREE_BYTES: &str = "\
@@ -125,8 +127,11 @@ fn run<
     let answer = match stop {
         Some(stop) => {
             let options = ServeOptions::default();
+            let Ok(channel) = NoticeChannel::new(alloc, proxies.len()) else {
+                return false;
+            };
             serve_with(
-                rt, alloc, proxies, script, 1, lines, &NoNotices, stop, &NoLogs, &options,
+                rt, alloc, proxies, script, 1, lines, &channel, &NoNotices, stop, &NoLogs, &options,
             )
         }
         None => serve(rt, alloc, proxies, script, 1, Some(1), lines),

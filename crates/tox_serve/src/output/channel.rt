@@ -2,18 +2,14 @@
 ghost use Rattle.std.specs.Prelude.{◌≡◌};
 ghost use Rattle.tox_serve.specs.output.LineQueue.{no_lines};
 
-use crate::link::break_reason::BreakReason;
-use crate::output::breaks::{Breaks, BrokenLinks};
 use crate::output::queue::LineQueue;
 use std::alloc::{AllocError, Global};
 use std::sync::{Condvar, Mutex, MutexGuard, Wait};
-use std::time::Clock;
 
 /// What the lock keeps.
 #[derive(Drop)]
 struct Waiting {
     queue: LineQueue,
-    breaks: Breaks,
     /// Whether no more lines come.
     closed: bool,
 }
@@ -22,21 +18,19 @@ struct Waiting {
 #[derive(Drop)]
 pub(crate) struct LineChannel {
     waiting: Mutex<Waiting>,
-    /// Notified when a line was added, when a link has broken, and when the channel is closed.
+    /// Notified when a line was added, and when the channel is closed.
     added: Condvar,
     /// Notified when the lines were taken.
     taken: Condvar,
 }
 
 impl LineChannel {
-    /// An open channel without lines, for so many proxies.
-    pub(crate) fn new(alloc: Global, proxies: usize) -> Result<LineChannel, AllocError> {
+    /// An open channel without lines.
+    pub(crate) fn new(alloc: Global) -> Result<LineChannel, AllocError> {
         let queue = LineQueue::new(alloc)?;
-        let breaks = Breaks::new(alloc, proxies)?;
         Ok(LineChannel {
             waiting: Mutex::new(Waiting {
                 queue,
-                breaks,
                 closed: false,
             }),
             added: Condvar::new(),
@@ -65,34 +59,14 @@ impl LineChannel {
         unreachable!()
     }
 
-    /// Notes why a numbered link of the proxy at a place has broken, if that is reported.
-    pub(crate) fn note_break<R: Wait>(
-        &self,
-        rt: &R,
-        place: usize,
-        number: u64,
-        reason: BreakReason,
-    ) {
-        let mut waiting = self.waiting.lock(rt);
-        waiting.breaks.note(place, number, reason);
-        self.added.notify_one();
-    }
-
-    /// The next report of broken links that is due by now.
-    pub(crate) fn next_break<R: Wait + Clock>(&self, rt: &R) -> Option<BrokenLinks> {
-        let mut waiting = self.waiting.lock(rt);
-        let are_last = waiting.closed;
-        waiting.breaks.next(rt, are_last)
-    }
-
     /// No more lines come.
     pub(crate) fn close<R: Wait>(&self, rt: &R) {
         self.waiting.lock(rt).closed = true;
         self.added.notify_all();
     }
 
-    /// Waits for lines, or for a report of broken links that is due, and moves the lines into an empty queue. False once no more come.
-    pub(crate) fn receive<R: Wait + Clock>(&self, rt: &R, empty: &mut LineQueue) -> bool
+    /// Waits for lines, and moves them into an empty queue. False once no more come.
+    pub(crate) fn receive<R: Wait>(&self, rt: &R, empty: &mut LineQueue) -> bool
         requires { empty.old ≡ no_lines }
     {
         let Some(mut waiting) = self.filled(rt) else {
@@ -103,21 +77,17 @@ impl LineChannel {
         true
     }
 
-    /// The lock, once lines wait or a report of broken links is due. None once no more come.
-    fn filled<R: Wait + Clock>(&self, rt: &R) -> Option<MutexGuard<'_, Waiting>> {
+    /// The lock, once lines wait. None once no more come.
+    fn filled<R: Wait>(&self, rt: &R) -> Option<MutexGuard<'_, Waiting>> {
         let mut waiting = self.waiting.lock(rt);
         for _ in rt.forever() {
-            let rest = waiting.breaks.rest(rt);
-            if !waiting.queue.is_empty() || rest.is_some_and(|rest| rest.is_zero()) {
+            if !waiting.queue.is_empty() {
                 return Some(waiting);
             }
             if waiting.closed {
                 return None;
             }
-            waiting = match rest {
-                Some(rest) => self.added.wait_timeout(rt, waiting, rest).0,
-                None => self.added.wait(rt, waiting),
-            };
+            waiting = self.added.wait(rt, waiting);
         }
         unreachable!()
     }

@@ -1,4 +1,5 @@
 //! Connecting the upstream of a link. The connect doesn't wait in the system, so that a run that is stopping gives it up.
+use crate::deadline::Deadline;
 use crate::link::break_reason::BreakReason;
 use crate::link::look_up::look_up;
 use crate::link::reached::Reached;
@@ -9,10 +10,11 @@ use mio::net::TcpStream as BegunStream;
 use std::io::ErrorKind;
 use std::net::{SocketAddr, TcpStream};
 use std::os::fd::AsRawFd;
+use std::time::Clock;
 use tox_sockets::{Connection, can_write, connection_of};
 
 /// How long an answer is waited for at a time, in milliseconds.
-const TURN: u32 = 50;
+const TURN: i32 = 50;
 
 /// The socket of an upstream, or why there is none: a run that is stopping reaches none either. Each address of its name is tried
 /// in turn.
@@ -77,16 +79,26 @@ fn begin_connect<R: ServeRuntime>(
 
 /// Whether a connect that has begun ends, well or not, before `--connect-timeout` is over or the run is stopping.
 fn has_answered<R: ServeRuntime>(rt: &R, run: &ServeRun<'_>, stream: &TcpStream) -> bool {
-    let mut left = run.options.connect_timeout.unwrap_or(u32::MAX);
+    let deadline = match run.options.connect_timeout {
+        Some(millis) => Some(Deadline::after(rt, millis)),
+        None => None,
+    };
     for _ in rt.forever() {
-        let turn = left.min(TURN);
-        if can_write(stream.as_raw_fd(), turn as i32) {
+        let turn = turn_before(rt, deadline);
+        if can_write(stream.as_raw_fd(), turn) {
             return true;
         }
-        left -= turn;
-        if left == 0 || run.live.is_stopping(rt) {
+        if turn == 0 || run.live.is_stopping(rt) {
             return false;
         }
     }
     unreachable!()
+}
+
+/// How long an answer is waited for next, in milliseconds: a turn, or what is left before a deadline. 0 once it has passed.
+fn turn_before<R: Clock>(rt: &R, deadline: Option<Deadline>) -> i32 {
+    match deadline {
+        Some(deadline) => deadline.left_millis(rt).min(TURN),
+        None => TURN,
+    }
 }

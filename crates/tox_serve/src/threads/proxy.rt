@@ -1,6 +1,7 @@
 //! One served proxy: takes connections, starts a thread for each, and prints the totals at the end.
 use crate::link::break_reason::BreakReason;
 use crate::link::logs::broken_link;
+use crate::proxy::filling::note_fill;
 use crate::proxy::links::ProxyLinks;
 use crate::proxy::listening::Listening;
 use crate::proxy::taking::{Taken, is_enough, number_link};
@@ -48,6 +49,7 @@ fn take_links<'s, E: 's, R: ServeRuntime>(
         };
         let taken = number_link(&mut links.book(rt), client);
         if let Some(taken) = taken {
+            note_fill(rt, run, links.place, taken.number);
             start_link(rt, run, links, scope, taken);
         }
     }

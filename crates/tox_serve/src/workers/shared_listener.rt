@@ -2,6 +2,7 @@
 ghost use Rattle.std.specs.Prelude.{◌≡◌, ◌+◌, ◌-◌, ◌^◌, min, true};
 
 use crate::proxy::accepting::{Next, after};
+use crate::proxy::filling::note_fill;
 use crate::proxy::link_book::LinkBook;
 use crate::proxy::links::ProxyLinks;
 use crate::proxy::taking::{Taken, is_enough, number_link};
@@ -153,6 +154,9 @@ impl SharedListener {
                 return Accepted::Left { wakes };
             }
             if let Some(accepted) = shared.accept(run, &mut book) {
+                if let Accepted::Client(taken) = &accepted {
+                    note_fill(rt, run, links.place, taken.number);
+                }
                 return accepted;
             }
         }
