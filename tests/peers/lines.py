@@ -69,23 +69,30 @@ def nobody_reads_the_lines(program, folder):
     check(grown < GROWTH, f"memory grew by {grown} KB")
 
 
-@start
-def connect_takes_no_longer_than_told(program, folder):
-    """The upstream's queue is full, so that a connect to it waits. It is given up after 300 milliseconds, and its link is broken."""
+def connect_that_hangs(program, folder, millis, meanwhile):
+    """Serves one link whose upstream's queue is full, so that a connect to it waits until its limit. How long that took, and what was printed."""
     with socket.socket() as upstream, socket.socket() as waits:
         upstream.bind(("127.0.0.1", 0))
         upstream.listen(0)
         waits.connect(upstream.getsockname())
         proxy = {"name": "shop", "listen": "127.0.0.1:0", "upstream": f"127.0.0.1:{upstream.getsockname()[1]}"}
-        command = [*serve_command(program, folder, [proxy]), "--links", "1", "--connect-timeout", "300"]
+        command = [*serve_command(program, folder, [proxy]), "--links", "1", "--connect-timeout", str(millis)]
         with subprocess.Popen(command, stdout=subprocess.PIPE, text=True) as process:
             port = int(process.stdout.readline().rpartition(":")[2])
             since = time.monotonic()
             with socket.create_connection(("127.0.0.1", port), timeout=LIMIT) as client:
+                meanwhile(process)
                 check(client.recv(1) == b"", "bytes of an upstream that wasn't reached")
             took = time.monotonic() - since
             output, _ = process.communicate(timeout=LIMIT)
-    check(took >= 0.3, f"the connect took {took:.3f} s")
+    check(took >= millis / 1000, f"the connect took {took:.3f} s")
+    return took, output
+
+
+@start
+def connect_takes_no_longer_than_told(program, folder):
+    """It is given up after 300 milliseconds, and its link is broken."""
+    took, output = connect_that_hangs(program, folder, 300, lambda process: None)
     check_in_time(took < 2, f"the connect took {took:.3f} s")
     check(output == "link shop 1 up 0 broken down 0 broken\ntotal shop 1 up 0 down 0\n", f"it printed `{output}`")
 
@@ -93,24 +100,13 @@ def connect_takes_no_longer_than_told(program, folder):
 @start
 def a_stopped_process_connects_no_longer(program, folder):
     """The time of a connect goes on while the process doesn't run."""
-    with socket.socket() as upstream, socket.socket() as waits:
-        upstream.bind(("127.0.0.1", 0))
-        upstream.listen(0)
-        waits.connect(upstream.getsockname())
-        proxy = {"name": "shop", "listen": "127.0.0.1:0", "upstream": f"127.0.0.1:{upstream.getsockname()[1]}"}
-        command = [*serve_command(program, folder, [proxy]), "--links", "1", "--connect-timeout", "2000"]
-        with subprocess.Popen(command, stdout=subprocess.PIPE, stderr=subprocess.DEVNULL, text=True) as process:
-            port = int(process.stdout.readline().rpartition(":")[2])
-            since = time.monotonic()
-            with socket.create_connection(("127.0.0.1", port), timeout=LIMIT) as client:
-                time.sleep(0.2)
-                process.send_signal(signal.SIGSTOP)
-                time.sleep(1.5)
-                process.send_signal(signal.SIGCONT)
-                check(client.recv(1) == b"", "bytes of an upstream that wasn't reached")
-            took = time.monotonic() - since
-            process.communicate(timeout=LIMIT)
-    check(took >= 2, f"the connect took {took:.3f} s")
+    def stand_still(process):
+        time.sleep(0.2)
+        process.send_signal(signal.SIGSTOP)
+        time.sleep(1.5)
+        process.send_signal(signal.SIGCONT)
+
+    took, _ = connect_that_hangs(program, folder, 2_000, stand_still)
     check_in_time(took < 2.8, f"the connect took {took:.3f} s")
 
 
