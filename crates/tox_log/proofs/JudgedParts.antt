@@ -15,7 +15,8 @@ pub ended_fields-parts : (word : List ℕ) (instant : ℕ) (f1 f2 : JsonField)
     → flat_map field_text (f1 ∷ f2 ∷ []) ≡ ended_fields word instant
 ended_fields-parts word instant f1 f2 e1 e2 = beside e1 (append-nil (field_text f2) ∙ e2)
 
-nine : (a b c d e f g h i : List ℕ) → a ++ (b ++ (c ++ (d ++ (e ++ (f ++ (g ++ (h ++ (i ++ [])))))))) ≡ a ++ b ++ c ++ d ++ e ++ f ++ g ++ h ++ i
+-- nine texts, one behind the other
+pub nine : (a b c d e f g h i : List ℕ) → a ++ (b ++ (c ++ (d ++ (e ++ (f ++ (g ++ (h ++ (i ++ [])))))))) ≡ a ++ b ++ c ++ d ++ e ++ f ++ g ++ h ++ i
 nine a b c d e f g h i = simp (append_assoc, append-nil)
 
 pub late_field-parts : (late : Percentiles) (word : List ℕ) → word ≡ flag_text (not late.exact)

@@ -4,6 +4,7 @@ pub mod Cuts
 pub mod Decimals
 pub mod Faults
 pub mod HeaderParts
+pub mod HeardParts
 pub mod Hearing
 pub mod HeadingLines
 pub mod Keeping
@@ -16,6 +17,7 @@ pub mod ShortForms
 pub mod NoLines
 pub mod NotedLines
 pub mod JudgedParts
+pub mod JudgedLineParts
 pub mod Opening
 pub mod ReadsBack
 pub mod Refusing

@@ -5,8 +5,10 @@ pub mod Lateness
 pub mod HeaderLines
 pub mod HeaderText
 pub mod FaultText
+pub mod HeardText
 pub mod JudgedLine
 pub mod JudgedObject
+pub mod JudgedText
 pub mod Judging
 pub mod Hearing
 pub mod Lines

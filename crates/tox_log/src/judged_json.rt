@@ -1,6 +1,7 @@
 //! The line of a judged log as an object of JSON.
-ghost use Rattle.std.specs.Prelude.{◌≡◌, false, IfOk};
-ghost use Rattle.tox_log.specs.JudgedLine.{HasJudged};
+ghost use Rattle.std.specs.Prelude.{◌≡◌, ◌≢◌, false, IfErr, IfOk, OnOk};
+ghost use Rattle.tox_log.specs.FaultText.{IsFaultIn};
+ghost use Rattle.tox_log.specs.JudgedLine.{HasJudged, LeavesJudged};
 ghost use Rattle.tox_log.specs.JudgedObject.{end_fields, ended_fields, ending_fields, judged_object, late_field, outcome_fields, said_fields, stream_fields};
 ghost use Rattle.tox_text.specs.Json.{flag_text};
 ghost use Rattle.tox_text.specs.JsonLine.{number_field};
@@ -25,8 +26,13 @@ pub fn write_judged_json<'a, R: Source, W: Sink>(
 ) -> Result<Verdict, ReplayFault<'a>>
     requires reads { R.failed reader.old ≡ false }
     requires works { W.failed writer.old ≡ false }
-    ensures { IfOk result (HasJudged (R.remaining reader.old) (W.written writer.old)
-        (W.written writer.new) name.entry.now) }
+    ensures ok { IfOk result (HasJudged (R.remaining reader.old) (W.written writer.old)
+        (W.written writer.new) (judged_object name.entry.now)) }
+    ensures works { OnOk result (W.failed writer.new ≡ false) }
+    ensures fault { IfErr result (LeavesJudged (R.remaining reader.old) (W.written writer.old)
+        (W.written writer.new) (W.failed writer.new) (judged_object name.entry.now)) }
+    ensures named { IfErr result (λ fault. fault ≢ ReplayFault.WriteFault
+        → IsFaultIn name.entry fault) }
 {
     let log = match judge_log(alloc, reader) {
         Ok(log) => log,

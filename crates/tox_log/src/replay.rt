@@ -20,13 +20,12 @@ ghost use Rattle.tox_link.specs.log.Log.{IsShallowBehind};
 ghost use Rattle.tox_time.specs.declared.streams.item.Item.{Item as OneItem};
 
 use crate::event_line::LogLine;
-use crate::fault::{LogFault, ReplayFault};
+use crate::fault::LogFault;
 use crate::heading::Heading;
 use crate::judge::{
     EndingJudged, Judge, begin as begin_judge, hear_end, hear_piece as judge_piece,
     hear_wrote as judge_wrote, judge_ending, takes_at, takes_piece,
 };
-use crate::judged_text::print_judged;
 use crate::last_line::{BreakCause, LastLine};
 use crate::lateness::{Lateness, Percentiles};
 use crate::open_log::OpenLog;
@@ -34,8 +33,7 @@ use std::alloc::Global;
 use tox_compile::compile;
 use tox_defs::Chain;
 use tox_link::LinkEvent;
-use tox_text::Printer;
-use tox_time::{Ending, Micros, Sink, Slice, Source};
+use tox_time::{Ending, Micros, Slice, Source};
 
 /// What a log is.
 #[derive(Clone, Copy, Debug, PartialEq, Eq)]
@@ -116,30 +114,6 @@ pub fn judge_log<R: Source>(alloc: Global, reader: &mut R) -> Result<JudgedLog, 
         writes: hearing.writes,
         late,
     })
-}
-
-/// Judges the log in the file of this name, and writes its line.
-pub fn write_judged<'a, R: Source, W: Sink>(
-    alloc: Global,
-    name: &'a str,
-    reader: &mut R,
-    writer: &mut W,
-) -> Result<Verdict, ReplayFault<'a>>
-    requires reads { R.failed reader.old ≡ false }
-    requires works { W.failed writer.old ≡ false }
-{
-    let log = match judge_log(alloc, reader) {
-        Ok(log) => log,
-        Err(fault) => return Err(ReplayFault::of(name, &fault)),
-    };
-    let mut printer = Printer::new(writer);
-    if print_judged(&mut printer, &log).is_err() {
-        return Err(ReplayFault::WriteFault);
-    }
-    match printer.finish() {
-        Ok(()) => Ok(log.verdict),
-        Err(_) => Err(ReplayFault::WriteFault),
-    }
 }
 
 /// The hearing of a log of which only the header is read.
