@@ -1,7 +1,7 @@
 -- The steps of a judge.
 use Rattle.std.proofs.Common.{◌≡◌, ℕ, ◌+◌, ◌-◌, ◌<◌, ◌≤◌, Bool, true, false, List, [], ◌∷◌, ◌++◌, replicate, Some, None, refl, ap, sym, ◌∙◌, subst}
 use Rattle.std.proofs.Common.{append_assoc, append-nil, zero-add, arith}
-use Rattle.std.specs.Prelude.{nat_lt, if◌then◌else◌, IfSome, IsSome, Option}
+use Rattle.std.specs.Prelude.{nat_lt, if◌then◌else◌, IfSome, IsSome, Option, is_some}
 use Rattle.std.proofs.lemmas.Bool.Decides.{nat_tests}
 use Rattle.std.proofs.lemmas.List.{replicate-append-replicate}
 use Rattle.tox_time.specs.declared.streams.slice.Slice.{Slice}
@@ -31,6 +31,11 @@ use Rattle.tox_link.proofs.Looks.{gives-none}
 use Rattle.tox_link.proofs.StepLemmas.{faithful-nil}
 use Rattle.tox_log.specs.declared.judge.Judge.{Judge}
 use Rattle.tox_log.specs.Judging.{AddsUp, FollowsWith, IsRest, KeepsUp, Judged, Stays, part_from, rest_table, slice_in, source_heard}
+
+-- where there is nothing
+pub not-some : {A : Type 0} (option : Option A) → is_some option ≡ false → option ≡ None
+not-some None none = refl
+not-some (Some value) none = absurd (cc)
 
 -- what stands now agrees with the plan
 agrees-now : (means : List Item → List Item) (core : CoreView) (given : List ℕ) (heard_to latest start : ℕ) (log : List LinkEvent)

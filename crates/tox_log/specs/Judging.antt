@@ -112,6 +112,12 @@ abbrev pub HasSaidAll : Judge → ℕ → Type 0
 HasSaidAll judge reading = (judge.rest ≡ None) × (core_ending judge.core ≡ None
     → IsUnended (ops_of judge.core.runner.cursors) (remaining_output judge.core) reading)
 
+-- all is said, the core knows no ending, and some operation of the plan leaves the link open from an instant on
+pub record MayStayOpen (judge : Judge) : Type 0 where
+  pub said : judge.rest ≡ None
+  pub unknown : core_ending judge.core ≡ None
+  pub opens : list_any leaves_open (ops_of judge.core.runner.cursors) ≡ true
+
 -- no link with this log reports this ending at a reading
 abbrev pub HasNoReport : (List Item → List Item) → (ℕ → Bool) → List LinkEvent → ℕ → Ending → Type 0
 HasNoReport means reported log reading last = (taken written : ℕ) (source : Option ReadEnd)

@@ -14,7 +14,7 @@ ghost use Rattle.tox_link.specs.Reports.{ReportsAt};
 ghost use Rattle.std.specs.List.{list_any};
 ghost use Rattle.tox_plan.specs.Unended.{leaves_open};
 ghost use Rattle.tox_log.specs.declared.judge.EndingJudged.TheVariants as TheJudged;
-ghost use Rattle.tox_log.specs.Judging.{Expects, HasSaidAll, HoldsUnsaid, KeepsUp, Judged, Refuses, RefusesEnding, Stays, Hears, SaysPart, next_table, part_from, slice_in, source_heard};
+ghost use Rattle.tox_log.specs.Judging.{Expects, HasSaidAll, HoldsUnsaid, KeepsUp, Judged, MayStayOpen, Refuses, RefusesEnding, Stays, Hears, SaysPart, next_table, part_from, slice_in, source_heard};
 
 use std::alloc::{AllocError, Global};
 use tox_compile::{Op, Plan};
@@ -356,7 +356,8 @@ pub(crate) fn judge_ending(judge: &mut Judge, ending: &Ending, reading: &Micros)
         → ReportsAt means (λ t. reported t ≡ true) log judge.old.heard judge.old.said ending.now
         (source_heard judge.old.ended) reading.now }
     ensures refuses { result ≡ TheJudged.Refused → RefusesEnding judge.old reading.now ending.now }
-    ensures early { result ≡ TheJudged.Early → ending.now ≡ OneEnding.StillOpen }
+    ensures early { result ≡ TheJudged.Early → (ending.now ≡ OneEnding.StillOpen)
+        × MayStayOpen judge.new }
 {
     look(judge, reading);
     let Some(last) = judge.core.ending() else {

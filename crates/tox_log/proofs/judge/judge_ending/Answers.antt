@@ -3,7 +3,7 @@ use Rattle.std.proofs.Common.{◌≡◌, true, false, None, [], is_some, not, ap
 use Rattle.tox_time.specs.declared.streams.ending.Ending.TheVariants.{StillOpen}
 use Rattle.tox_plan.specs.OpCursors.{ops_of}
 use Rattle.tox_log.specs.Judging.{FollowsWith}
-use Rattle.tox_log.proofs.Judging.{ended-reports}
+use Rattle.tox_log.proofs.Judging.{ended-reports, not-some}
 use Rattle.tox_log.proofs.RefusingEndings.{report-ended, report-ending, report-open, report-whole}
 use Rattle.tox_log.proofs.judge.judge_ending.Goals as goal
 use Rattle.tox_log.proofs.judge.judge_ending.Goals.{then-judge, else-judge}
@@ -59,3 +59,18 @@ returns-else-is_end-clause-refuses c = λ no means reported log judged taken wri
     let yes : c.is_end.result ≡ true = c.is_end.ensures.1 (all.0, same, report.reached) in
     let no : c.is_end.result ≡ false = c.if-is_end.false in
     absurd (cc)
+
+pub returns-in_default-clause-early : goal.returns-in_default-clause-early
+returns-in_default-clause-early c = λ early.
+    let is = c.judge_unknown.ensures.early.0 early in
+    elim c.if-judge.branch [
+      | then-judge w ↦ (
+        is.0,
+        record {
+          said = not-some c.look.new.judge.rest (w.is_none.ensures ∙ ap not (sym w.judge_unknown-is ∙ is.1));
+          unknown = sym c.in_default.ensures.value;
+          opens = sym c.look.ensures.held.opens ∙ w.if-judge.true;
+        },
+      )
+      | else-judge w ↦ absurd (let no : true ≡ false = sym is.1 ∙ w.judge_unknown-is ∙ w.if-judge.false in cc)
+    ]

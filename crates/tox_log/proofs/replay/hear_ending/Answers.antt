@@ -34,7 +34,7 @@ returns-in-Refused-clause-hears c = λ start means text writable whole heard at.
 
 pub returns-in-Early-clause-hears : goal.returns-in-Early-clause-hears
 returns-in-Early-clause-hears c = λ start means text writable whole heard at.
-    let is_open : c.args.ending.now ≡ StillOpen = c.judge_ending.ensures.early (search rules) in
+    let is_open : c.args.ending.now ≡ StillOpen = (c.judge_ending.ensures.early (search rules)).0 in
     subst (λ ending. SaysOf start means (text ++ (line_words (Last (Ended c.args.reading.now ending)) ++ 10 ∷ [])) true
     (record c.args.hearing.now { judge = c.judge_ending.new.judge })) (sym is_open)
     (says-open start means text c.args.hearing.now c.judge_ending.new.judge c.args.reading.now c.requires.going whole (c.judge_ending.ensures.stays means)
