@@ -126,6 +126,12 @@ pub no-name : {A : Type 0} (read : Option A) (text : List ℕ) (P : A → Type 0
 no-name None text P none refused = refused
 no-name (Some a) text P none refused = absurd (cc)
 
+-- and one that is read
+pub read-name : {A : Type 0} (read : Option A) (text : List ℕ) (P : A → Type 0) → is_some read ≡ true
+    → MatchOption read (¬ IsWritableName text) (λ name. P name × IsWritableName text) → IsWritableName text
+read-name None text P some refused = absurd (cc)
+read-name (Some a) text P some named = named.1
+
 -- the words of the third line
 pub seed-whole : (line rest count more : List ℕ) (lanes : Lanes) (seed : ℕ) → line ++ 10 ∷ [] ≡ seed_line lanes seed → rest ≡ drop 6 line
     → Lacks 32 count × (rest ≡ count ++ 32 ∷ more)

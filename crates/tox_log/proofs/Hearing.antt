@@ -11,6 +11,7 @@ use Rattle.tox_defs.specs.Flow.{chain_flow}
 use Rattle.tox_log.specs.declared.heading.Heading.{Heading}
 use Rattle.tox_log.specs.declared.open_log.OpenLog.{OpenLog}
 use Rattle.tox_log.specs.declared.replay.JudgedLog.{JudgedLog}
+use Rattle.tox_log.specs.HeaderLines.{AreHeaderNames}
 use Rattle.tox_log.specs.HeaderText.{header_text}
 use Rattle.tox_log.specs.Opening.{Opens}
 use Rattle.std.proofs.lemmas.Grind.{flat_map-append}
@@ -301,22 +302,29 @@ same-heard means text old new judge source_end reset writes late heard = record 
 pub says-broken : (start : ℕ) (means : List Item → List Item) (text : List ℕ) (old new : Hearing) (cause : BreakCause) (bytes : ℕ) → new.verdict ≡ Unfinished
     → new.broken ≡ Some cause
     → new.judge ≡ old.judge → new.source_end ≡ old.source_end → new.source_reset ≡ old.source_reset → new.writes ≡ old.writes → new.late ≡ old.late
-    → HasHeard means text old
+    → IsWritable (Last (Broken cause bytes)) → HasHeard means text old
     → SaysOf start means (text ++ (line_words (Last (Broken cause bytes)) ++ 10 ∷ [])) true new
-says-broken start means text old new cause bytes going broken judge source_end reset writes late heard =
+says-broken start means text old new cause bytes going broken judge source_end reset writes late writable heard =
     let lines : List ℕ = text ++ (line_words (Last (Broken cause bytes)) ++ 10 ∷ []) in
     let stopped : HasNoEnding means lines true new (Some cause) = (
       refl,
-      record { front = text; bytes = bytes; heard = same-heard means text old new judge source_end reset writes late heard; lines = refl },
+      record {
+        front = text;
+        bytes = bytes;
+        heard = same-heard means text old new judge source_end reset writes late heard;
+        writable = writable;
+        lines = refl;
+      },
     ) in
     subst (SaysSo start means lines true new) (sym going) (subst (HasNoEnding means lines true new) (sym broken) stopped)
 
 -- the last line tells of an open link, and the judge stays one after the events
 pub says-open : (start : ℕ) (means : List Item → List Item) (text : List ℕ) (old : Hearing) (judge : Judge) (reading : ℕ) → old.verdict ≡ Unfinished
     → old.broken ≡ None
-    → ((reported : ℕ → Bool) (log : List LinkEvent) → Judged means reported old.judge log → Judged means reported judge log) → HasHeard means text old
+    → ((reported : ℕ → Bool) (log : List LinkEvent) → Judged means reported old.judge log → Judged means reported judge log)
+    → IsWritable (Last (Ended reading StillOpen)) → HasHeard means text old
     → SaysOf start means (text ++ (line_words (Last (Ended reading StillOpen)) ++ 10 ∷ [])) true (record old { judge = judge })
-says-open start means text old judge reading going whole stays heard =
+says-open start means text old judge reading going whole stays writable heard =
     let lines : List ℕ = text ++ (line_words (Last (Ended reading StillOpen)) ++ 10 ∷ []) in
     let new : Hearing = record old { judge = judge } in
     let left : HasNoEnding means lines true new None = inr (
@@ -333,6 +341,7 @@ says-open start means text old judge reading going whole stays heard =
           count = heard.count;
           late = heard.late;
         };
+        writable = writable;
         lines = refl;
       },
     ) in
@@ -341,12 +350,12 @@ says-open start means text old judge reading going whole stays heard =
 -- the last line tells the ending
 pub says-ended : (start : ℕ) (means : List Item → List Item) (text : List ℕ) (old new : Hearing) (reading : ℕ) (last : Ending) → new.broken ≡ None
     → new.source_end ≡ old.source_end → new.source_reset ≡ old.source_reset → new.writes ≡ old.writes
-    → KeepsMore old.late (ending_late reading last) new.late → HasHeard means text old
+    → KeepsMore old.late (ending_late reading last) new.late → IsWritable (Last (Ended reading last)) → HasHeard means text old
     → (new.judge.heard ≡ old.judge.heard) × (new.judge.said ≡ old.judge.said) × (new.judge.ended ≡ old.judge.ended)
     → ((means : List Item → List Item) (reported : ℕ → Bool) (log : List LinkEvent) → reported reading ≡ true → Judged means reported old.judge log
     → ReportsAt means (λ t. reported t ≡ true) log old.judge.heard old.judge.said last (source_heard old.judge.ended) reading)
     → SaysSo start means (text ++ (line_words (Last (Ended reading last)) ++ 10 ∷ [])) true new (Faithful last)
-says-ended start means text old new reading last whole source_end reset writes late heard counts reports =
+says-ended start means text old new reading last whole source_end reset writes late writable heard counts reports =
     let judged : Judged means (λ _. true) old.judge heard.events = heard.judged (λ _. true) (all-reported heard.events) in
     let ended : is_some new.source_end ≡ old.judge.ended = ap is_some (source_end ∙ sym heard.source_end) ∙ end-heard heard.events ∙ judged.closed in
     let few = few-writes means text old heard in
@@ -358,6 +367,8 @@ says-ended start means text old new reading last whole source_end reset writes l
       record {
         events = heard.events;
         reading = reading;
+        each = heard.written;
+        writable = writable;
         lines = ap (λ lines. lines ++ (line_words (Last (Ended reading last)) ++ 10 ∷ []))
             (heard.lines ∙ ap (λ reset. event_lines reset heard.events) (sym reset));
         counts = rw (counts.0, counts.1, source_end, writes) (counts-of means text old heard);
@@ -464,6 +475,7 @@ stopped-so means text over hearing None (inl says) =
       record {
         events = heard.events;
         last = [];
+        each = heard.written;
         lines = heard.lines ∙ sym (append-nil (event_lines hearing.source_reset heard.events));
         tells = inl refl;
         counts = counts-of means text hearing heard;
@@ -479,8 +491,9 @@ stopped-so means text over hearing None (inr says) =
       record {
         events = heard.events;
         last = last_line (Ended left.reading StillOpen);
+        each = heard.written;
         lines = rw (sym heard.lines) left.lines;
-        tells = inr (left.reading, refl);
+        tells = inr (left.reading, left.writable, refl);
         counts = counts-of means left.front hearing heard;
         values = refl;
         faithful = λ reported all. (heard.judged reported all).faithful;
@@ -494,8 +507,9 @@ stopped-so means text over hearing (Some cause) says =
       record {
         events = heard.events;
         last = last_line (Broken cause broken.bytes);
+        each = heard.written;
         lines = rw (sym heard.lines) broken.lines;
-        tells = (broken.bytes, refl);
+        tells = (broken.bytes, broken.writable, refl);
         counts = counts-of means broken.front hearing heard;
         values = refl;
         faithful = λ reported all. (heard.judged reported all).faithful;
@@ -512,6 +526,8 @@ text-of before after log last hearing end judged opened begun heard heading chai
     heard.rest opened.given opened.rest heard.given in record {
       names = opened.names;
       left = rest;
+      named = subst (λ (h : Heading). AreHeaderNames (string_bytes h.proxy) judged.chain.entries opened.names) (sym heading)
+          (subst (λ (c : Toxics). AreHeaderNames (string_bytes log.heading.proxy) c.entries opened.names) (sym chain) opened.named);
       text = given ∙ ap₂ (λ h c. prepend_known (header h c ++ heard.text) rest) (sym heading) (sym chain);
       rest = none;
       meaning = λ items stream. begun.meaning items stream ∙ ap₂ (λ h c. chain_flow c (seeded_words h.seed h.number h.stream) items) (sym heading) (sym chain);

@@ -20,6 +20,12 @@ pub record IsWritableToxic (named : Entry × List ℕ) : Type 0 where
   pub name : IsWritableName named.1
   pub short : length (toxic_line named.0 named.1) ≤ 4_097
 
+-- the names of a header: the proxy's, and one for each toxic of the chain, so that each has its line. A log can have each of them, so none has a line feed
+pub record AreHeaderNames (name : List ℕ) (entries : List Entry) (names : List (List ℕ)) : Type 0 where
+  pub writable : IsWritableName name
+  pub one_each : length names ≡ length entries
+  pub each : All IsWritableName names
+
 -- a line that prints the name of a proxy, and the number and the stream of a link
 pub record PrintsLink (line name : List ℕ) (number : ℕ) (stream : Stream) : Type 0 where
   pub named : IsWritableName name

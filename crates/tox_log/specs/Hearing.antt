@@ -7,6 +7,7 @@ use Rattle.tox_defs.specs.chain.Chain.{Toxics}
 use Rattle.tox_defs.specs.Flow.{chain_flow}
 use Rattle.tox_log.specs.declared.heading.Heading.{Heading}
 use Rattle.tox_log.specs.declared.replay.JudgedLog.{JudgedLog}
+use Rattle.tox_log.specs.HeaderLines.{AreHeaderNames}
 use Rattle.tox_log.specs.HeaderText.{header_text}
 use Rattle.tox_time.specs.declared.streams.item.Item.{Item}
 use Rattle.tox_time.specs.declared.streams.ending.Ending.{Ending}
@@ -35,6 +36,10 @@ use Rattle.tox_log.specs.Judging.{HasNoReport, Judged, source_heard}
 abbrev pub AreReported : (ℕ → Bool) → List LinkEvent → Type 0
 AreReported reported events = All (λ event. reported (reading_of event) ≡ true) events
 
+-- each event can be a line of a log
+abbrev pub AreWritable : List LinkEvent → Type 0
+AreWritable events = All (λ event. IsWritable (Event event)) events
+
 -- the instant of the source's end, if it was heard
 abbrev pub source_end_of : List LinkEvent → Option ℕ
 source_end_of [] = None
@@ -52,7 +57,7 @@ pub record AreCounts (events : List LinkEvent) (taken written : ℕ) (source_end
 -- the text is the lines of these events, whose source ended and was reset or not as the hearing has it, and the hearing is one after them
 pub record HasHeard (means : List Item → List Item) (text : List ℕ) (hearing : Hearing) : Type 0 where
   pub events : List LinkEvent
-  pub written : All (λ event. IsWritable (Event event)) events
+  pub written : AreWritable events
   pub lines : text ≡ event_lines hearing.source_reset events
   pub source_end : source_end_of events ≡ hearing.source_end
   pub judged : (reported : ℕ → Bool) → AreReported reported events → Judged means reported hearing.judge events
@@ -64,6 +69,7 @@ pub record HasBroken (means : List Item → List Item) (text : List ℕ) (hearin
   pub front : List ℕ
   pub bytes : ℕ
   pub heard : HasHeard means front hearing
+  pub writable : IsWritable (Last (Broken cause bytes))
   pub lines : text ≡ front ++ last_line (Broken cause bytes)
 
 -- the text is the lines of such events, and a last line that tells of an open link
@@ -71,6 +77,7 @@ pub record HasOpenEnd (means : List Item → List Item) (text : List ℕ) (heari
   pub front : List ℕ
   pub reading : ℕ
   pub heard : HasHeard means front hearing
+  pub writable : IsWritable (Last (Ended reading StillOpen))
   pub lines : text ≡ front ++ last_line (Ended reading StillOpen)
 
 -- the lines that were read so far tell no ending that is settled: they have a last line exactly if there is a cause, which is that of
@@ -86,6 +93,8 @@ pub record HasReport (means : List Item → List Item) (text : List ℕ) (taken 
     (ending : Ending) : Type 0 where
   pub events : List LinkEvent
   pub reading : ℕ
+  pub each : AreWritable events
+  pub writable : IsWritable (Last (Ended reading ending))
   pub lines : text ≡ event_lines reset events ++ last_line (Ended reading ending)
   pub counts : AreCounts events taken written source_end writes
   pub values : late ≡ lates events ++ ending_late reading ending
@@ -111,7 +120,7 @@ pub record HasRefusal (means : List Item → List Item) (text : List ℕ) (start
   pub reset : Bool
   pub line : LogLine
   pub more : List ℕ
-  pub written : All (λ event. IsWritable (Event event)) events
+  pub written : AreWritable events
   pub writable : IsWritable line
   pub lines : text ≡ event_lines reset events ++ ((line_words line ++ 10 ∷ []) ++ more)
   pub faithful : (reported : ℕ → Bool) → AreReported reported events → IsFaithful means (λ t. reported t ≡ true) events
@@ -158,11 +167,12 @@ pub record BeginsJudging (heading : Heading) (chain : Toxics) (hearing : Hearing
   pub says : (start : ℕ) → SaysOf start means [] false hearing
   pub unfinished : hearing.verdict ≡ Unfinished
 
--- bytes are the header of a judged log, these lines, and a rest without a line; and this is what the chain of that header does with
--- the words of its link's stream
+-- bytes are the header of a judged log, these lines, and a rest without a line. The header has a line for each toxic of the chain, and no name has a
+-- line feed, so it lists just these toxics; and this is what the chain does with the words of its link's stream
 pub record IsTextOf (given : Option (List ℕ)) (judged : JudgedLog) (lines : List ℕ) (means : List Item → List Item) : Type 0 where
   pub names : List (List ℕ)
   pub left : Option (List ℕ)
+  pub named : AreHeaderNames (string_bytes judged.heading.proxy) judged.chain.entries names
   pub text : given ≡ prepend_known (header_text (string_bytes judged.heading.proxy) judged.heading.number judged.heading.stream judged.heading.seed judged.chain
       names ++ lines) left
   pub rest : LacksLine left
@@ -189,8 +199,9 @@ pub record IsRefusedText (given : Option (List ℕ)) (judged : JudgedLog) (numbe
 
 -- no last line, or one that tells of an open link; with a cause it tells that the stream broke off
 abbrev pub TellsNoEnding : Option BreakCause → List ℕ → Type 0
-TellsNoEnding None last = (last ≡ []) ⊎ ((reading : ℕ) × (last ≡ last_line (Ended reading StillOpen)))
-TellsNoEnding (Some cause) last = (bytes : ℕ) × (last ≡ last_line (Broken cause bytes))
+TellsNoEnding None last =
+    (last ≡ []) ⊎ ((reading : ℕ) × IsWritable (Last (Ended reading StillOpen)) × (last ≡ last_line (Ended reading StillOpen)))
+TellsNoEnding (Some cause) last = (bytes : ℕ) × IsWritable (Last (Broken cause bytes)) × (last ≡ last_line (Broken cause bytes))
 
 -- the text is the lines of events that are faithful, and no last line or one that tells no settled ending; and these are the events'
 -- counts, and how late its writes were
@@ -198,6 +209,7 @@ pub record HasStopped (means : List Item → List Item) (text : List ℕ) (broke
     (writes : ℕ) (late : List ℕ) : Type 0 where
   pub events : List LinkEvent
   pub last : List ℕ
+  pub each : AreWritable events
   pub lines : text ≡ event_lines reset events ++ last
   pub tells : TellsNoEnding broken last
   pub counts : AreCounts events taken written source_end writes

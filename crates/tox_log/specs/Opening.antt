@@ -1,9 +1,10 @@
 -- The header of a log, as it is read.
-use Rattle.std.specs.Prelude.{◌≡◌, ℕ, false, List, [], ◌∷◌, ◌++◌, map, flat_map, string_bytes, Option, ◌⊎◌}
+use Rattle.std.specs.Prelude.{◌≡◌, ℕ, false, List, [], ◌∷◌, ◌++◌, All, map, flat_map, string_bytes, Option, ◌⊎◌}
 use Rattle.std.specs.Io.KnownBytes.{IsAtEnd, prepend_known}
 use Rattle.tox_defs.specs.declared.chain.Entry.{Entry}
 use Rattle.tox_log.specs.declared.open_log.OpenLog.{OpenLog}
 use Rattle.tox_time.specs.streams.StreamPosition.{first_position}
+use Rattle.tox_log.specs.HeaderLines.{AreHeaderNames, IsWritableName}
 use Rattle.tox_log.specs.HeaderText.{header_text, toxic_line}
 use Rattle.tox_log.specs.Numbers.{Lacks}
 use Rattle.tox_log.specs.Reading.{to_hand, to_take}
@@ -22,6 +23,7 @@ SameHeading old new =
 pub record AddsToxic (old new : OpenLog) : Type 0 where
   pub entry : Entry
   pub name : List ℕ
+  pub named : IsWritableName name
   pub line : old.lines.line.items ++ 10 ∷ [] ≡ toxic_line entry name
   pub short : old.lines.long ≡ false
   pub chain : new.chain.entries ≡ old.chain.entries ++ entry ∷ []
@@ -30,6 +32,7 @@ pub record AddsToxic (old new : OpenLog) : Type 0 where
 pub record ReadsToxics (old new : OpenLog) (before after : Option (List ℕ)) : Type 0 where
   pub toxics : List (Entry × List ℕ)
   pub torn : List ℕ
+  pub named : All (λ named. IsWritableName named.1) toxics
   pub chain : new.chain.entries ≡ old.chain.entries ++ map (λ named. named.0) toxics
   pub given : to_take old.lines before ≡ prepend_known (named_lines toxics ++ torn) (to_hand new after)
   pub rest : (torn ≡ []) ⊎ IsAtEnd (to_hand new after)
@@ -39,6 +42,7 @@ pub record ReadsToxics (old new : OpenLog) (before after : Option (List ℕ)) : 
 pub record Opens (before after : Option (List ℕ)) (log : OpenLog) : Type 0 where
   pub names : List (List ℕ)
   pub torn : List ℕ
+  pub named : AreHeaderNames (string_bytes log.heading.proxy) log.chain.entries names
   pub given : before ≡ prepend_known (header_text (string_bytes log.heading.proxy) log.heading.number log.heading.stream log.heading.seed log.chain names
       ++ torn) (to_hand log after)
   pub rest : (torn ≡ []) ⊎ IsAtEnd (to_hand log after)

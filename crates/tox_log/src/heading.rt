@@ -51,6 +51,7 @@ pub(crate) fn is_title(line: &[u8]) -> bool
 /// What the second line says: `link <name> <number> <stream>`.
 pub(crate) fn read_link(line: &[u8]) -> Option<LinkWords<'_>>
     ensures numbered { IfSome result (λ link. (1 ≤ link.number) × (link.number ≤ 1_000_000)) }
+    ensures named { IfSome result (λ link. IsWritableName link.proxy.now) }
     ensures line { IfSome result
         (λ link. line.now ++ 10 ∷ [] ≡ link_line link.proxy.now link.number link.stream) }
     ensures back { (name : List ℕ) (number : ℕ) (stream : OneStream)
@@ -146,7 +147,7 @@ pub(crate) fn is_toxic(line: &[u8]) -> bool
 pub(crate) fn read_toxic(alloc: Global, line: &[u8]) -> Result<Option<Entry>, AllocError>
     ensures entry { IfOk result (λ read. IfSome read (λ entry. IsEntry entry)) }
     ensures line { IfOk result (λ read. IfSome read (λ entry. (name : List ℕ)
-        × (line.now ++ 10 ∷ [] ≡ toxic_line entry name))) }
+        × IsWritableName name × (line.now ++ 10 ∷ [] ≡ toxic_line entry name))) }
     ensures back { (named : OneEntry × List ℕ) → PrintsToxic line.now named
         → IfOk result (λ read. read ≡ Some named.0) }
 {

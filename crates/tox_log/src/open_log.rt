@@ -3,6 +3,7 @@ ghost use Rattle.std.specs.Prelude.{◌≡◌, ℕ, ◌≤◌, ◌+◌, ◌++◌
 ghost use Rattle.tox_log.specs.Lines.{IsWritable, line_words};
 ghost use Rattle.std.specs.Io.KnownBytes.{prepend_known};
 ghost use Rattle.tox_words.specs.Seeded.{seeded_words};
+ghost use Rattle.tox_log.specs.HeaderLines.{IsWritableName};
 ghost use Rattle.tox_log.specs.HeaderText.{heading_lines, link_line, seed_line, title_line};
 ghost use Rattle.tox_log.specs.Opening.{AddsToxic, Opens, ReadsToxics, SameHeading};
 ghost use Rattle.tox_log.specs.Order.{GoesOnWith};
@@ -246,6 +247,7 @@ fn read_heading<R: Source>(
 ) -> Result<Heading, LogFault>
     requires { R.failed reader.old ≡ false }
     ensures working { OnOk result (R.failed reader.new ≡ false) }
+    ensures named { IfOk result (λ heading. IsWritableName (string_bytes heading.proxy)) }
     ensures lines { IfOk result (λ heading. to_take lines.old (R.remaining reader.old)
         ≡ prepend_known (heading_lines (string_bytes heading.proxy) heading.number heading.stream
         heading.lanes heading.seed) (to_take lines.new (R.remaining reader.new))) }
@@ -296,6 +298,7 @@ fn read_link_line<R: Source>(
     requires { R.failed reader.old ≡ false }
     ensures working { OnOk result (R.failed reader.new ≡ false) }
     ensures numbered { IfOk result (λ link. (1 ≤ link.1) × (link.1 ≤ 1_000_000)) }
+    ensures named { IfOk result (λ link. IsWritableName (string_bytes link.0)) }
     ensures line { IfOk result (λ link. to_take lines.old (R.remaining reader.old)
         ≡ prepend_known (link_line (string_bytes link.0) link.1 link.2)
         (to_take lines.new (R.remaining reader.new))) }

@@ -3,12 +3,13 @@ use Rattle.std.proofs.Common.{◌≡◌, true, false, ap, sym, subst, ◌∙◌,
 use Rattle.tox_defs.specs.short.Printed.{printed_short}
 use Rattle.tox_log.specs.HeaderLines.{IsWritableName}
 use Rattle.tox_log.proofs.HeaderParts.{toxic-read}
-use Rattle.tox_log.proofs.HeadingLines.{no-name, toxic-cut, toxic-spaced, value-of}
+use Rattle.tox_log.proofs.HeadingLines.{no-name, read-name, toxic-cut, toxic-spaced, value-of}
 use Rattle.tox_log.proofs.heading.read_toxic.Goals as goal
 
 pub returns-then-branch-clause-line : goal.returns-then-branch-clause-line
 returns-then-branch-clause-line c = (
   c.in-Some.name.now,
+  read-name c.name_of.result c.in-Some.name.now (λ name. name.now ≡ c.in-Some.name.now) c.if-is_none.ensures c.name_of.ensures,
   toxic-read c.args.line.now c.in-Some.short.now c.in-Some.name.now c.in-Some-entry_of.entry
       (search rules) (search rules),
 )

@@ -53,7 +53,7 @@ returns-in-Last-Broken-clause-hears c =
     let broken : Hearing = record c.args.hearing.now { broken = Some c.in-Last-Broken.cause } in
     subst (λ line. HearsLine c.args.hearing.now line c.args.number broken) (sym is)
     (λ start means text writable whole heard at. says-broken start means text c.args.hearing.now broken c.in-Last-Broken.cause c.in-Last-Broken.field-0-1
-    c.requires.going refl refl refl refl refl refl heard)
+    c.requires.going refl refl refl refl refl refl writable heard)
 
 pub returns-in-Event-Piece-clause-judges : goal.returns-in-Event-Piece-clause-judges
 returns-in-Event-Piece-clause-judges c =

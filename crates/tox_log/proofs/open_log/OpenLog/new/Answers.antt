@@ -23,7 +23,7 @@ returns-clause-opens g c =
     } in
     opens c.in_ok-lines.lines start c.read_toxics.new.self (g.R.Source.remaining c.args.reader.now) (g.R.Source.remaining c.read_heading.new.reader)
     (g.R.Source.remaining c.read_toxics.new.reader) heading
-    c.in_ok-lines.ensures c.in_ok-heading.ensures.lines (ap (λ chain. chain.entries) c.with_lanes.ensures) same.0 same.1
+    c.in_ok-lines.ensures c.in_ok-heading.ensures.lines c.in_ok-heading.ensures.named (ap (λ chain. chain.entries) c.with_lanes.ensures) same.0 same.1
     (same.2 ∙ ap (λ chain. chain.lanes) c.with_lanes.ensures) (same.3 ∙ c.start.ensures) c.in_ok-read_toxics.ensures.toxics
 
 pub returns-in_err-heading-clause-reads : goal.returns-in_err-heading-clause-reads
