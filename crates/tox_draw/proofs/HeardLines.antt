@@ -219,6 +219,7 @@ says-log frame means before after log hearing runner opens all =
       names = opens.names;
       torn = last;
       left = end;
+      named = opens.named;
       text = text;
       unended = unended;
       ended = ended;

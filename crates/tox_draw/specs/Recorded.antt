@@ -16,6 +16,7 @@ use Rattle.tox_log.specs.declared.heading.Heading.{Heading}
 use Rattle.tox_log.specs.declared.last_line.LastLine.{LastLine}
 use Rattle.tox_log.specs.declared.last_line.LastLine.TheVariants.{Ended, Broken as BrokenOff}
 use Rattle.tox_log.specs.EventLines.{event_lines}
+use Rattle.tox_log.specs.HeaderLines.{AreHeaderNames}
 use Rattle.tox_log.specs.HeaderText.{header_text}
 use Rattle.tox_log.specs.Hearing.{source_end_of}
 use Rattle.tox_log.specs.LastText.{last_line}
@@ -48,6 +49,7 @@ pub record SaysLog (given : Option (List ℕ)) (log : LogText) : Type 0 where
   pub names : List (List ℕ)
   pub torn : List ℕ
   pub left : Option (List ℕ)
+  pub named : AreHeaderNames (string_bytes log.heading.proxy) log.chain.entries names
   pub text : given
       ≡ prepend_known (header_text (string_bytes log.heading.proxy) log.heading.number log.heading.stream log.heading.seed log.chain names
       ++ ((event_lines log.source_reset log.events ++ last_lines log.last) ++ torn)) left

@@ -1,9 +1,5 @@
--- What is known of logs by their names, and what a log is judged by.
+-- What is known of logs by their names.
 use Rattle.std.specs.Prelude.{◌≡◌, ℕ, List, Option, Some, None}
-use Rattle.tox_time.specs.declared.streams.ending.Ending.{Ending}
-use Rattle.tox_log.specs.declared.replay.JudgedLog.{JudgedLog}
-use Rattle.tox_log.specs.declared.replay.Verdict.TheVariants as verdict
-use Rattle.tox_log.specs.Hearing.{IsFaithfulText, IsRefusedText}
 
 -- what is known of a log: nothing, or whether it can be opened, and then its bytes
 abbrev pub KnownLog : Type 0
@@ -20,9 +16,3 @@ abbrev pub MayLack : KnownLog → Type 0
 MayLack None = Unit {0}
 MayLack (Some None) = Unit {0}
 MayLack (Some (Some bytes)) = ⊥
-
--- these bytes are what the verdict of a log says
-pub record IsJudged (given : Option (List ℕ)) (log : JudgedLog) : Type 0 where
-  pub faithful : (ending : Ending) → log.verdict ≡ verdict.Faithful ending
-      → IsFaithfulText given log ending
-  pub refused : (line : ℕ) → log.verdict ≡ verdict.Unfaithful line → IsRefusedText given log line

@@ -6,12 +6,13 @@ use Rattle.tox_log.specs.declared.fault.ReplayFault.{ReplayFault}
 use Rattle.tox_log.specs.declared.fault.ReplayFault.TheVariants.{OutOfMemory}
 use Rattle.tox_log.specs.declared.replay.JudgedLog.{JudgedLog}
 use Rattle.tox_log.specs.FaultText.{replay_fault_text}
+use Rattle.tox_log.specs.JudgedLine.{IsJudged}
 use Rattle.tox_draw.specs.Forms.{chosen_forms}
 use Rattle.tox_draw.specs.declared.pages.report.Report.{Report}
 use Rattle.tox_draw.specs.declared.pages.row.Refusal.{Refusal}
 use Rattle.tox_draw.specs.declared.pages.row.Row.{Row}
 use Rattle.tox_draw.specs.declared.pages.row.StreamFacts.{StreamFacts}
-use Rattle.tox_draw.specs.pages.Logs.{IsJudged, KnownLog, OpensLog}
+use Rattle.tox_draw.specs.pages.Logs.{KnownLog, OpensLog}
 use Rattle.tox_draw.specs.pages.Outcomes.{outcome_of}
 use Rattle.tox_draw.specs.pages.StreamEnds.{cutter_of, stream_end_of}
 

@@ -10,8 +10,11 @@ returns-in-Ok-clause-ok g c =
       given = _;
       opened = c.in-Some.ensures.opened;
       log = c.in-Ok.log;
-      judged =
-          record { faithful = c.in-Ok.ensures.faithful; refused = c.in-Ok.ensures.refused };
+      judged = record {
+        faithful = c.in-Ok.ensures.faithful;
+        unfinished = c.in-Ok.ensures.unfinished;
+        refused = c.in-Ok.ensures.refused;
+      };
       kept = kept;
     }) c.keep_log.ensures.ok
 
