@@ -6,6 +6,7 @@ use Rattle.tox_text.specs.Writing.{AppendsFront}
 use Rattle.tox_link.specs.declared.notes.LinkEvent.TheVariants.{Piece, SourceEnd, Wrote}
 use Rattle.tox_log.specs.declared.event_line.LogLine.{LogLine}
 use Rattle.tox_log.specs.declared.event_line.LogLine.TheVariants.{Event, SourceReset, Last}
+use Rattle.tox_log.specs.declared.fault.LogFault.TheVariants.{OutOfMemory}
 use Rattle.tox_log.specs.declared.heard_text.HeardFault.{HeardFault}
 use Rattle.tox_log.specs.declared.heard_text.HeardFault.TheVariants.{Log, WriteFault}
 use Rattle.tox_log.specs.Lines.{IsWritable}
@@ -50,9 +51,9 @@ abbrev pub is_write_fault : HeardFault → Bool
 is_write_fault (Log fault) = false
 is_write_fault WriteFault = true
 
--- what a fault leaves of a text: a failed write its front, and a fault of the log nothing
+-- what a fault leaves of a text: a failed write its front, and out of memory nothing. There is no other fault
 abbrev pub LeavesText : Option (List ℕ) → Option (List ℕ) → Bool → List ℕ → HeardFault → Type 0
-LeavesText old new failed text (Log fault) = (new ≡ old) × (failed ≡ false)
+LeavesText old new failed text (Log fault) = (fault ≡ OutOfMemory) × (new ≡ old) × (failed ≡ false)
 LeavesText old new failed text WriteFault = AppendsFront old new text × (failed ≡ true)
 
 -- what stands before the element at an index of a list

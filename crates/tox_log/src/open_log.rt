@@ -91,7 +91,8 @@ impl OpenLog {
     /// The words of the stream.
     pub fn words(&self, alloc: Global) -> Result<Words, LogFault>
         ensures { MatchResult result (λ words. words ≡ seeded_words self.now.heading.seed
-            self.now.heading.number self.now.heading.stream) BlamesNoLine }
+            self.now.heading.number self.now.heading.stream)
+            (λ fault. fault ≡ LogFault.OutOfMemory) }
     {
         let heading = &self.heading;
         match Words::from_seed(alloc, heading.seed, heading.number, heading.stream) {

@@ -1,5 +1,5 @@
 //! Where the bytes of logs go.
-ghost use Rattle.std.specs.Prelude.{◌≤◌, IsTrue, length};
+ghost use Rattle.std.specs.Prelude.{◌≡◌, ◌≤◌, IsTrue, length};
 ghost use Rattle.tox_log.specs.files.FileName.{names_file};
 ghost use Rattle.tox_log.specs.files.WholeLines.{AreLines};
 
@@ -27,11 +27,15 @@ pub trait LogFiles {
 pub struct NoLogs;
 
 impl LogFiles for NoLogs {
-    fn create(&self, _name: &str, bytes: &[u8]) -> usize {
+    fn create(&self, _name: &str, bytes: &[u8]) -> usize
+        ensures { result ≡ length bytes.now }
+    {
         bytes.len()
     }
 
-    fn append(&self, _name: &str, bytes: &[u8]) -> usize {
+    fn append(&self, _name: &str, bytes: &[u8]) -> usize
+        ensures { result ≡ length bytes.now }
+    {
         bytes.len()
     }
 
