@@ -32,6 +32,6 @@ is_pending_and_blocked status signal =
     (has_signal status (codes "\nShdPnd:\t") signal || has_signal status (codes "\nSigPnd:\t") signal)
     && has_signal status (codes "\nSigBlk:\t") signal && not (has_signal status (codes "\nSigIgn:\t") signal)
 
--- whether the process is told to stop: by signal 2, SIGINT, or 15, SIGTERM
+-- whether the process is told to stop: by signal 1, SIGHUP, 2, SIGINT, or 15, SIGTERM
 abbrev pub tells_to_stop : List ℕ → Bool
-tells_to_stop status = is_pending_and_blocked status 2 || is_pending_and_blocked status 15
+tells_to_stop status = is_pending_and_blocked status 1 || is_pending_and_blocked status 2 || is_pending_and_blocked status 15

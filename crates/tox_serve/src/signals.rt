@@ -2,16 +2,20 @@
 ghost use Rattle.std.specs.Prelude.{◌≡◌, ◌≤◌, ◌<◌};
 ghost use Rattle.tox_serve.specs.Signals.{bytes_behind, has_bit, has_signal, is_pending_and_blocked, tells_to_stop};
 
-/// SIGINT and SIGTERM.
+/// SIGHUP, SIGINT and SIGTERM.
+const HANG_UP: usize = 1;
+
 const INTERRUPT: usize = 2;
 
 const TERMINATE: usize = 15;
 
-/// Whether a process with this status is told to stop: SIGINT or SIGTERM waits, is blocked and isn't ignored.
+/// Whether a process with this status is told to stop: SIGHUP, SIGINT or SIGTERM waits, is blocked and isn't ignored.
 pub fn tells_to_stop(status: &[u8]) -> bool
     ensures { result ≡ tells_to_stop status.now }
 {
-    is_pending_and_blocked(status, INTERRUPT) || is_pending_and_blocked(status, TERMINATE)
+    is_pending_and_blocked(status, HANG_UP)
+        || is_pending_and_blocked(status, INTERRUPT)
+        || is_pending_and_blocked(status, TERMINATE)
 }
 
 /// Whether a signal waits, is blocked and isn't ignored.
