@@ -5,7 +5,7 @@
 
 The manual of toxics and faults is docs/PROFILE.md, that of rules docs/SCRIPTS.md.
 """
-__version__ = "0.6.1"
+__version__ = "0.7.0"
 
 from .async_served import AsyncToxi
 from .errors import ToxiEnded, ToxiError, ToxiFault, ToxiWarning
