@@ -71,6 +71,10 @@ pub fn serve<
     ensures nothing { All (λ proxy. proxy.enabled ≡ false) proxies.now → result ≡ Ok tt }
     ensures fault { IfErr result (HasServeCause proxies.now false) }
 {
+    // Without an enabled proxy the answer is Ok, also where there is no memory.
+    if !proxies.iter().any(|proxy| proxy.enabled) {
+        return Ok(());
+    }
     let options = ServeOptions::with_links(links);
     let Ok(channel) = NoticeChannel::new(alloc, proxies.len()) else {
         return Err(ServeFault::OutOfMemory);
