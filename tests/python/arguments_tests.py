@@ -16,7 +16,9 @@ class ArgumentsTests(unittest.TestCase):
             shown = self.ran(script, "--help")
             self.assertEqual((shown.returncode, shown.stderr), (0, ""), script)
             self.assertTrue(shown.stdout.startswith(f"usage: {os.path.basename(script)} "), script)
-            for words in ((), ("a", "b", "c", "d"), ("--unknown", "a", "b", "c")):
+            # A converter takes any number of inputs, but two outputs behind them.
+            wrong = ("a", "b") if script.endswith("from-toxiproxy") else ("a", "b", "c", "d")
+            for words in ((), wrong, ("--unknown", "a", "b", "c")):
                 refused = self.ran(script, *words)
                 self.assertEqual((refused.returncode, refused.stdout), (2, ""), (script, words))
                 self.assertTrue(refused.stderr.startswith("usage: "), script)
