@@ -7,10 +7,13 @@ The manual of toxics and faults is docs/PROFILE.md, that of rules docs/SCRIPTS.m
 """
 __version__ = "0.7.0"
 
+from ._search.client_run import ClientRun, RunLink
+from ._search.result import Flaky, SearchResult, Tried
+from ._search.search import Search
+from ._search.searching import Progress
 from .async_served import AsyncToxi
 from .errors import ToxiEnded, ToxiError, ToxiFault, ToxiWarning
 from .factory import ToxiFactory
-from .fault_search import Progress
 from .finding import find_fault
 from .found import Found, Met
 from .lines import Address, Link, Total
@@ -28,6 +31,8 @@ __all__ = [
     "Address",
     "AsyncToxi",
     "Bandwidth",
+    "ClientRun",
+    "Flaky",
     "Found",
     "Latency",
     "LimitData",
@@ -38,6 +43,9 @@ __all__ = [
     "Proxy",
     "ResetPeer",
     "Rule",
+    "RunLink",
+    "Search",
+    "SearchResult",
     "Slicer",
     "SlowClose",
     "Sweep",
@@ -51,6 +59,7 @@ __all__ = [
     "ToxiFault",
     "ToxiWarning",
     "Toxic",
+    "Tried",
     "find_fault",
     "rerun",
     "rerun_command",

@@ -5,22 +5,23 @@ import random
 from dataclasses import dataclass
 from typing import Iterable, Iterator, List, Sequence, Set, Tuple
 
+from ._search.conversation import TimeLimit
+from ._search.phases import LATE_PARTS, late_point
 from .conversations import StreamBytes
 from .errors import ToxiError
-from .fault_points import DELAYED_PART, ENDINGS, FAULTS, MICROS, SLICE_DELAY, FaultPoint
+from .fault_points import ALL, ENDINGS, FAULTS, MILLIS, FaultPoint, delay_of
 
 # The heads of messages end within so many bytes of a stream. Half of the runs that aren't near a boundary are there.
 HEAD = 512
-# A latency is told in milliseconds, here in microseconds.
-MIN_LATENCY = 1000
 
 
 @dataclass(frozen=True)
 class ChosenPoints:
-    """The points that are run, those at boundaries first, and how many there are without a bound."""
+    """The points that are run, and how many there are without a bound. The `first` of them are those at boundaries and of delays."""
 
     points: Sequence[FaultPoint]
     possible: int
+    first: int = 0
 
     @property
     def left_out(self) -> int:
@@ -41,40 +42,71 @@ class Span:
 
     def point(self, offset: int) -> FaultPoint:
         """The fault at an offset."""
-        return FaultPoint(*self.stream.key, self.fault, offset, self._delay(offset))
-
-    def _delay(self, offset: int) -> int:
-        """The delay of each slice, or of all, in microseconds: over the stream they add up to a part of the limit."""
-        budget = self.within * DELAYED_PART * MICROS
-        if self.fault == "sliced":
-            return min(SLICE_DELAY, max(int(budget * offset / self.stream.bytes), 1))
-        # Each piece may be an answer that the next request waits for.
-        return max(MIN_LATENCY, int(budget / max(len(self.stream.pieces), 1))) if self.fault == "slow" else 0
+        return FaultPoint(*self.stream.key, self.fault, offset, delay_of(self.fault, offset, self.stream, self.within))
 
 
 def chosen_points(
-    streams: Iterable[StreamBytes], faults: Sequence[str], *, most: int, every_silence: bool, within: float, seed: int
+    streams: Iterable[StreamBytes],
+    faults: Sequence[str],
+    *,
+    most: int,
+    every_silence: bool,
+    within: float,
+    seed: int,
+    limits: Sequence[TimeLimit] = (),
+    outages: bool = False,
 ) -> ChosenPoints:
     """The points of some streams, at most `most`: those near boundaries, some at the heads of streams, and others that are drawn.
-    `within` is the client's limit in seconds.
+    `within` is the client's limit in seconds, and `limits` are its time limits, by which answers come late. With `outages` there are endings of all
+    connections at the boundaries too.
 
     Silences are those near boundaries alone, unless `every_silence`. Raises `ValueError` for a fault of another name, and for none.
     """
+    _require_known(faults)
+    recorded = list(streams)
+    spans = [_span(stream, fault, within) for stream in recorded for fault in dict.fromkeys(faults) if fault != "late"]
+    whole = [span for span in spans if span.fault != "silent" or every_silence]
+    draw = random.Random(seed)
+    chosen: List[FaultPoint] = []
+    extra = [*_delayed(recorded, faults, limits), *(_outages(recorded, faults) if outages else ())]
+    at, beside = _near_places(spans)
+    chosen += _some(at, most, draw)
+    chosen += extra[: most - len(chosen)]
+    first = len(chosen)
+    chosen += _some(beside, most - len(chosen), draw)
+    heads = [(span, offset) for span in whole for offset in span.offsets[:HEAD] if offset not in span.near]
+    chosen += _some(heads, (most - len(chosen)) // 2, draw)
+    chosen += _drawn(whole, most - len(chosen), set(chosen), draw)
+    return ChosenPoints(chosen, sum(len(span.offsets if span in whole else span.near) for span in spans) + len(extra), first)
+
+
+def _require_known(faults: Sequence[str]) -> None:
     if not faults:
         raise ValueError(f"no fault is named; there are {', '.join(FAULTS)}")
     unknown = [fault for fault in faults if fault not in FAULTS]
     if unknown:
         raise ValueError(f"no fault {unknown[0]!r}; there are {', '.join(FAULTS)}")
-    spans = [_span(stream, fault, within) for stream in streams for fault in dict.fromkeys(faults)]
-    whole = [span for span in spans if span.fault != "silent" or every_silence]
-    draw = random.Random(seed)
-    chosen: List[FaultPoint] = []
-    for places in _near_places(spans):
-        chosen += _some(places, most - len(chosen), draw)
-    heads = [(span, offset) for span in whole for offset in span.offsets[:HEAD] if offset not in span.near]
-    chosen += _some(heads, (most - len(chosen)) // 2, draw)
-    chosen += _drawn(whole, most - len(chosen), set(chosen), draw)
-    return ChosenPoints(chosen, sum(len(span.offsets if span in whole else span.near) for span in spans))
+
+
+def _delayed(streams: Sequence[StreamBytes], faults: Sequence[str], limits: Sequence[TimeLimit]) -> Iterator[FaultPoint]:
+    """Streams that are slow, and single pieces that are late, by parts of each time limit."""
+    by_key = {stream.key: stream for stream in streams}
+    if "late" in faults:
+        for limit in limits:
+            stream = by_key[limit.proxy, limit.number, "downstream"]
+            yield from (late_point(stream, limit.offset, round(part * limit.milliseconds)) for part in LATE_PARTS)
+    if "slow" in faults:
+        for proxy, number, milliseconds in dict.fromkeys((limit.proxy, limit.number, limit.milliseconds) for limit in limits):
+            for direction in ("downstream", "upstream"):
+                yield from (FaultPoint(proxy, number, direction, "slow", 0, round(part * milliseconds) * MILLIS) for part in LATE_PARTS)
+
+
+def _outages(streams: Sequence[StreamBytes], faults: Sequence[str]) -> Iterator[FaultPoint]:
+    """Endings of all connections at the boundaries of the first one."""
+    for stream in streams:
+        if stream.number == 1:
+            for fault in (fault for fault in ENDINGS if fault in faults):
+                yield from (FaultPoint(stream.proxy, ALL, stream.stream, fault, offset) for offset in stream.boundaries)
 
 
 def _some(places: Sequence[Tuple[Span, int]], most: int, draw: random.Random) -> List[FaultPoint]:
@@ -83,10 +115,10 @@ def _some(places: Sequence[Tuple[Span, int]], most: int, draw: random.Random) ->
     return [span.point(offset) for span, offset in kept]
 
 
-def _near_places(spans: Sequence[Span]) -> Iterator[List[Tuple[Span, int]]]:
-    """The offsets at boundaries, and then those one byte beside them."""
-    yield [(span, offset) for span in spans for offset in sorted(span.boundaries)]
-    yield [(span, offset) for span in spans for offset in sorted(span.near - span.boundaries)]
+def _near_places(spans: Sequence[Span]) -> Tuple[List[Tuple[Span, int]], List[Tuple[Span, int]]]:
+    """The offsets at boundaries, and those one byte beside them."""
+    at = [(span, offset) for span in spans for offset in sorted(span.boundaries)]
+    return at, [(span, offset) for span in spans for offset in sorted(span.near - span.boundaries)]
 
 
 def repeated_points(streams: Iterable[StreamBytes], points: Iterable[FaultPoint], within: float) -> ChosenPoints:
@@ -97,8 +129,17 @@ def repeated_points(streams: Iterable[StreamBytes], points: Iterable[FaultPoint]
         if point.key not in by_key:
             made = ", ".join(f"{proxy} {number}" for proxy, number in dict.fromkeys(key[:2] for key in by_key))
             raise ToxiError(f"the client makes no connection of {point}, but {made}")
-        found.append(_span(by_key[point.key], point.fault, within).point(point.offset))
-    return ChosenPoints(found, len(found))
+        found.append(_repeated(by_key[point.key], point, within))
+    return ChosenPoints(found, len(found), len(found))
+
+
+def _repeated(stream: StreamBytes, point: FaultPoint, within: float) -> FaultPoint:
+    """The point with what its text doesn't tell: the window of a late piece, and a delay."""
+    if point.fault == "late":
+        return late_point(stream, point.offset, point.delay // MILLIS)
+    if point.number == ALL or point.delay:
+        return point
+    return _span(stream, point.fault, within).point(point.offset)
 
 
 def _span(stream: StreamBytes, fault: str, within: float) -> Span:

@@ -1,12 +1,20 @@
 """What the command lines of `toxi-find` and `toxi-sweep` share: the upstreams, the client's limit, its statuses and its command."""
 import argparse
-from typing import List, Sequence, Tuple
+import functools
+from pathlib import Path
+from typing import List, Optional, Sequence, Tuple, Union
 
+from . import __version__
+from ._search.result import SearchResult
+from ._search.trying import MakeJudge
 from .outcomes import WITHIN
+from .seeds import seed_argument
+from .shell_client import checks_by, direct_command, status_judge
+from .sweep_table import Sweep
 
 
-def client_parser(name: str, about: str) -> argparse.ArgumentParser:
-    """A parser with the options of a client. The command stands behind `--`."""
+def client_parser(name: str, about: str, faults: Sequence[str], budget: Optional[float] = None, max_found: Optional[int] = None) -> argparse.ArgumentParser:
+    """A parser with the options that both commands have. The client's command stands behind `--`."""
     parser = argparse.ArgumentParser(
         prog=name,
         usage=f"{name} --upstream NAME=HOST:PORT [option ..] -- COMMAND ..",
@@ -33,8 +41,41 @@ def client_parser(name: str, about: str) -> argparse.ArgumentParser:
         default=[],
         help="a status with which the command may fail under a fault. Repeatable",
     )
+    _add_run_options(parser, faults)
+    about = f"what all of it takes at most, in seconds (default: {budget or 'no bound'})"
+    parser.add_argument("--budget", metavar="S", type=seconds, default=budget, help=about)
+    parser.add_argument("--max-found", metavar="N", type=positive, default=max_found, help=f"end with N failures (default: {max_found or 'no bound'})")
+    parser.add_argument("--folder", metavar="DIR", type=Path, help="where files are written")
+    parser.add_argument("--json", metavar="FILE", type=Path, help="write the result as JSON")
+    parser.add_argument("--page", metavar="FILE", type=Path, help="write the result as an HTML page")
     parser.add_argument("--program", metavar="PATH", help="the program `toxi`; else $TOXI, the package's own, or that of the PATH")
+    parser.add_argument("--version", action="version", version=f"{name} {__version__}")
     return parser
+
+
+def _add_run_options(parser: argparse.ArgumentParser, faults: Sequence[str]) -> None:
+    """The options that say how the command is run, and under which faults."""
+    parser.add_argument("--seed", metavar="N", type=seed_argument, default=1, help="the seed of what is drawn, and of the proxies (default: %(default)s)")
+    parser.add_argument("--jobs", metavar="N", type=positive, default=1, help="run N commands at once (default: %(default)s)")
+    parser.add_argument("--before", metavar="COMMAND", help="a shell's command that runs before each run")
+    about = "a shell's command that says by its status 0 that a run is right; it finds the run as a JSON file in TOXI_RUN"
+    parser.add_argument("--check", metavar="COMMAND", help=about)
+    parser.add_argument("--connections", metavar="N", type=positive, help="faults of the first N connections of each proxy alone")
+    parser.add_argument("--fault", dest="faults", metavar="FAULT", action="append", choices=faults, help=f"one of {', '.join(faults)}. Repeatable")
+
+
+def judge_maker(arguments: argparse.Namespace, command: Sequence[str]) -> MakeJudge:
+    """What makes the judge of a command's runs."""
+    looks = None if arguments.check is None else checks_by(arguments.check)
+    direct = direct_command(arguments.upstreams, command)
+    return functools.partial(status_judge, allowed_statuses=arguments.allowed_statuses, direct=direct, looks=looks)
+
+
+def write_result(result: Union[SearchResult, Sweep], arguments: argparse.Namespace) -> None:
+    """Writes a result where it is asked for."""
+    for path, text in ((arguments.json, result.json_text), (arguments.page, result.page_text)):
+        if path is not None:
+            path.write_text(text(), encoding="utf-8", errors="backslashreplace")
 
 
 def read_client_arguments(parser: argparse.ArgumentParser, words: Sequence[str]) -> Tuple[argparse.Namespace, List[str]]:
@@ -71,4 +112,5 @@ def _named_upstream(text: str) -> Tuple[str, str]:
     name, mark, upstream = text.partition("=")
     if not (name and mark and upstream):
         raise argparse.ArgumentTypeError(f"{text!r} isn't NAME=HOST:PORT")
-    return name, upstream
+    # As for curl, `:8080` is one of this machine.
+    return name, f"127.0.0.1{upstream}" if upstream.startswith(":") and upstream.count(":") == 1 else upstream

@@ -3,7 +3,7 @@ from abc import ABC, abstractmethod
 from dataclasses import dataclass
 from typing import Any, Callable, Dict, List, Optional, Sequence, Tuple, Type
 
-from .outcomes import Allowed, Check, Client
+from .outcomes import Allowed, Check, Client, Eventually
 from .sources import Source, place_of_source, source_of
 
 HEAD = '''"""{about}"""
@@ -40,14 +40,17 @@ class ClientSource(ABC):
 
 @dataclass(frozen=True)
 class CommandSource(ClientSource):
-    """A command and the statuses with which it may fail."""
+    """A command and the statuses with which it may fail, and the shell's commands that run before each run and that check it."""
 
     command: Sequence[str]
     allowed_statuses: Sequence[int]
+    before: Optional[str] = None
+    check: Optional[str] = None
 
     def test_text(self, about: str, within: float, times: int) -> str:
         """As a test of the command."""
-        options = f"allowed_statuses={list(self.allowed_statuses)!r}, within={within!r}, times={times}"
+        given = "".join(f"{name}={text!r}, " for name, text in (("before", self.before), ("check", self.check)) if text is not None)
+        options = f"allowed_statuses={list(self.allowed_statuses)!r}, {given}within={within!r}, times={times}"
         call = f"rerun_command(Path(__file__).parent, {list(self.command)!r}, {options})"
         return f"{HEAD.format(about=about)}\nfrom toxi import ToxiError, rerun_command\n{TEST.format(call=call, times=times)}"
 
@@ -60,10 +63,11 @@ class FunctionSource(ClientSource):
     check: Optional[Check]
     allowed: Allowed
     before: Optional[Callable[[], object]]
+    eventually: Optional[Eventually] = None
 
     def test_text(self, about: str, within: float, times: int) -> str:
         """As a test that imports them. One that no module has, such as a local function, is to be put in by hand."""
-        functions: Dict[str, Any] = {"client": self.client, "check": self.check, "before": self.before}
+        functions: Dict[str, Any] = {"client": self.client, "check": self.check, "before": self.before, "eventually": self.eventually}
         given = {name: value for name, value in functions.items() if value is not None}
         classes = _named(self.allowed if isinstance(self.allowed, tuple) else (self.allowed,))
         values = {**given, **{name: kind for name, kind in classes.items() if (kind.__module__, kind.__name__) != ("builtins", name)}}

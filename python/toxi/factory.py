@@ -1,21 +1,22 @@
 """`ToxiFactory`: what the fixtures `toxi`, `toxi_module` and `toxi_session` are."""
 from dataclasses import dataclass, field
 from pathlib import Path
-from typing import Callable, Dict, Iterable, List, Mapping, Optional, Sequence, Union
+from typing import Any, Callable, Dict, Iterable, List, Mapping, Optional, Sequence, Union
 
+from ._search.result import SearchResult
+from ._search.search import Search
 from .base import START_LIMIT, StrPath
-from .fault_points import ENDINGS
 from .finding import BUDGET, RUNS, find_fault
 from .found import Found
 from .kept_sweep import KeptSweep
-from .outcomes import WITHIN, Allowed, Check, Client
+from .outcomes import SETTLED_WITHIN, WITHIN, Allowed, Check, Client, Eventually
 from .program import found_program
 from .proxies import Proxies
 from .rules import Rule
 from .runs import Position, Run
 from .served import Toxi
 from .sweep_table import Sweep
-from .sweeping import MOST, sweep_faults
+from .sweeping import MOST, SWEPT, sweep_faults
 
 
 @dataclass(frozen=True)
@@ -48,8 +49,9 @@ class ToxiFactory:
         served = toxi({"shop": "127.0.0.1:8080"}, [Rule("shop", [Latency(latency=100)])])
     """
 
-    def __init__(self, seed: int, folder: Path, program: Optional[str] = None, workers: Optional[int] = None) -> None:
+    def __init__(self, seed: int, folder: Path, program: Optional[str] = None, workers: Optional[int] = None, root: Optional[Path] = None) -> None:
         self.seed = seed
+        self._root = root
         self._folder = folder
         self._program = program
         self._workers = workers
@@ -91,6 +93,41 @@ class ToxiFactory:
         self._started.append(served)
         return served
 
+    def search(
+        self,
+        upstreams: Mapping[str, str],
+        client: Union[Client, str],
+        *,
+        check: Optional[Check] = None,
+        allowed: Union[Allowed, str] = OSError,
+        within: float = WITHIN,
+        before: Optional[Callable[[], object]] = None,
+        jobs: int = 1,
+        isolated: bool = False,
+        eventually: Optional[Eventually] = None,
+        settle: float = SETTLED_WITHIN,
+    ) -> "FixtureSearch":
+        """`toxi.Search` under the fixture's seed, program and number of workers. What it finds and sweeps is in the report of a red test."""
+        search = FixtureSearch(
+            upstreams, client, check, allowed, within, before, self.seed, jobs, self._own_program(), self._workers, isolated, eventually, settle, self._root
+        )
+        search.keep_in(self)
+        return search
+
+    def next_folder(self, kind: str) -> Path:
+        """Where the next of what is found or swept is written."""
+        return self._folder / f"{kind}-{len(self._found) + 1}"
+
+    def keep(self, results: Iterable[Union[Found, Sweep]]) -> None:
+        """Puts what was found and swept into the report of a red test."""
+        for result in results:
+            if isinstance(result, Sweep):
+                kept = KeptSweep(result, self.next_folder("sweep"))
+                kept.write_files()
+                self._found.append(kept)
+            else:
+                self._found.append(result)
+
     def find_fault(
         self,
         upstreams: Mapping[str, str],
@@ -123,12 +160,11 @@ class ToxiFactory:
             stream=stream,
             kinds=kinds,
             trickle=trickle,
-            folder=self._folder / f"found-{len(self._found) + 1}",
+            folder=self.next_folder("found"),
             program=self._own_program(),
             workers=self._workers,
         )
-        if found is not None:
-            self._found.append(found)
+        self.keep([] if found is None else [found])
         return found
 
     def sweep_faults(
@@ -136,7 +172,7 @@ class ToxiFactory:
         upstreams: Mapping[str, str],
         client: Client,
         *,
-        faults: Sequence[str] = ENDINGS,
+        faults: Sequence[str] = SWEPT,
         most: int = MOST,
         jobs: int = 1,
         every_silence: bool = False,
@@ -162,9 +198,7 @@ class ToxiFactory:
             program=self._own_program(),
             workers=self._workers,
         )
-        kept = KeptSweep(sweep, self._folder / f"sweep-{len(self._found) + 1}")
-        kept.write_files()
-        self._found.append(kept)
+        self.keep([sweep])
         return sweep
 
     def _own_program(self) -> Optional[str]:
@@ -193,3 +227,27 @@ class ToxiFactory:
             for number, served in each
             if number > begun.started or served in begun.positions
         ]
+
+
+class FixtureSearch(Search):
+    """A `Search` whose results are in the report of a red test. Its options are those of `Search`."""
+
+    def keep_in(self, factory: ToxiFactory) -> None:
+        """Where results are kept."""
+        object.__setattr__(self, "_factory", factory)
+
+    def find(self, **options: Any) -> SearchResult:
+        """As `Search.find`, with folders of the fixture."""
+        __tracebackhide__ = True
+        factory: ToxiFactory = vars(self)["_factory"]
+        given: Dict[str, Any] = {"folder": factory.next_folder("found"), **options}
+        result = super().find(**given)
+        factory.keep(result.found)
+        return result
+
+    def sweep(self, **options: Any) -> Sweep:
+        """As `Search.sweep`, kept in a folder of the fixture."""
+        __tracebackhide__ = True
+        sweep = super().sweep(**options)
+        vars(self)["_factory"].keep([sweep])
+        return sweep

@@ -1,14 +1,14 @@
 """The line on a terminal that tells how far a search is."""
 from typing import Optional, Sequence, TextIO
 
-from .fault_search import Progress, Smallest
+from ._search.searching import Progress, Smallest
 from .rules import Rule
 from .terminal_line import TerminalLine
 from .toxics import Toxic
 
 
 class ProgressLine(TerminalLine):
-    """Written after each run: the runs, and the kind and the rules of the smallest fault so far."""
+    """Written after each run: the runs, the phase, and the kind and the rules of the smallest fault so far."""
 
     def __init__(self, stream: TextIO) -> None:
         super().__init__(stream)
@@ -17,10 +17,15 @@ class ProgressLine(TerminalLine):
 
     def __call__(self, progress: Progress) -> None:
         self.runs, self.smallest = progress.runs, progress.smallest
-        told = f"{progress.runs} runs"
-        if progress.smallest is not None:
-            told += f", {progress.smallest.verdict}: {short_text(progress.smallest.rules)}"
-        self.show(told)
+        self.show(progress_text(progress))
+
+
+def progress_text(progress: Progress) -> str:
+    """The runs, the phase, and the kind and the rules of the smallest fault so far."""
+    told = f"{progress.runs} runs, {progress.phase}"
+    if progress.smallest is not None:
+        told += f", {progress.smallest.verdict}: {short_text(progress.smallest.rules)}"
+    return told
 
 
 def short_text(rules: Sequence[Rule]) -> str:

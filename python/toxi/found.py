@@ -4,7 +4,7 @@ import shlex
 import traceback
 from dataclasses import dataclass
 from pathlib import Path
-from typing import Tuple
+from typing import Any, Optional, Tuple
 
 from .lines import Link
 from .outcomes import WRONG, Outcome, Verdict
@@ -31,10 +31,13 @@ class Met:
 class Found:
     """A fault under which a client is wrong, as small as the search could make it.
 
-    `kind` is `wrong answer`, `exception <class>`, `hang`, or `status <n>` of a command. `detail` is what came: the answer or the exception. It came in
-    `failed` of the last `repeated` runs under `script` and `seed`. `connections` is what each connection met in one that failed. `folder` has
+    `kind` is `wrong answer`, `not settled`, `exception <class>`, `hang`, or `status <n>` of a command. `detail` is what came: the answer beside
+    the right one, or the exception. It came in `failed` of the last `repeated` runs under `script` and `seed`; where `repeated` is 1 that is the run that
+    showed it. `connections` is what each connection met in one that failed. `where` is the place of the client's own files where it failed, or the last
+    line of a command's standard error. `hint` is the class of a library's exception, which `allowed` may name. `refused` are the proxies that refused
+    connects. `folder` has
     `proxies.json`, `script.toml`, `seed`, `logs`, `report.html`, and `again.sh` and `test_found.py`, which run it again. `runs` and `seconds` are those
-    of the whole search.
+    of the search until then.
     """
 
     script: str
@@ -47,26 +50,45 @@ class Found:
     runs: int
     seconds: float
     folder: Path
+    where: str = ""
+    hint: Optional[str] = None
+    refused: Tuple[str, ...] = ()
 
     @property
     def command(self) -> str:
         """The command that runs it again."""
         return shlex.join(["sh", str(self.folder / "again.sh")])
 
+    @property
+    def page(self) -> Path:
+        """The page of its logs. It isn't there where no connection was made."""
+        return self.folder / "report.html"
+
+    @property
+    def times(self) -> str:
+        """How often it came, in words. One run isn't a repetition."""
+        return f"in {self.failed} of {self.repeated} runs" if self.repeated > 1 else "in one run"
+
     def __str__(self) -> str:
-        head = f"{self.kind} in {self.failed} of {self.repeated} runs, found and shrunk by {self.runs} runs in {self.seconds:.1f} s"
-        return "\n".join([head, *filter(None, [self.detail]), "", self.script, *map(str, self.connections), self.command])
+        head = f"{self.kind} {self.times}, found and shrunk by {self.runs} runs in {self.seconds:.1f} s"
+        place = f"at {self.where}" if self.where else ""
+        allowed = f"If it may fail so: allowed=(.., {self.hint})" if self.hint else ""
+        refused = "".join(f"{name} refuses connects\n" for name in self.refused)
+        return "\n".join([head, *filter(None, [self.detail, place, allowed]), "", refused + self.script, *map(str, self.connections), self.command])
 
     def __repr__(self) -> str:
-        return f"<Found: {self.kind} in {self.failed} of {self.repeated} runs; {self.command}>"
+        return f"<Found: {self.kind} {self.times}; {self.command}>"
 
 
-def detail_of(outcome: Outcome, verdict: Verdict) -> str:
-    """What came of a run beside its verdict, for a person: its answer, the traceback of its exception, or how it hung. Empty for a command's status."""
+def detail_of(outcome: Outcome, verdict: Verdict, right: Any = None) -> str:
+    """What came of a run beside its verdict, for a person: its answer beside a right one, the traceback of its exception, or how it hung. Empty for a
+    command's status."""
     if outcome.hung:
         after = "returned once its links were broken" if outcome.returned else "didn't return when its links were broken either"
         return f"no return within {outcome.seconds:.1f} s; it {after}"
     if outcome.error is not None:
         error = outcome.error
         return "".join(traceback.format_exception(type(error), error, error.__traceback__)).rstrip("\n")
-    return f"answer {SHOWN.repr(outcome.answer)}" if verdict is WRONG else ""
+    if isinstance(outcome.answer, int) and verdict is not WRONG:
+        return ""
+    return f"answer {SHOWN.repr(outcome.answer)}\nright  {SHOWN.repr(right)}"

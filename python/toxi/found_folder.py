@@ -4,18 +4,23 @@ import os
 import shlex
 import sys
 import tempfile
+from dataclasses import dataclass
 from pathlib import Path
 from typing import List, Optional, Tuple
 
+from ._search.failures import allowed_hint
+from ._search.searching import Smallest
 from .artifacts import keep_run
 from .base import STREAMS
 from .client_source import ClientSource
 from .errors import ToxiError
-from .fault_search import Smallest
 from .found import Found, Met, detail_of
+from .outcomes import Judge
+from .program import found_program
+from .proxies import Proxy, populate_text
 from .runs import Position
 from .served import page_of
-from .trials import Trials
+from .trials import Trial, Trials
 
 AGAIN = """#!/bin/sh
 # Runs the client again under script.toml and seed {seed}, and fails until it is mended.
@@ -24,63 +29,98 @@ folder="$(cd "$(dirname "$0")" && pwd)" && cd {directory} && TOXI={program} PYTH
 # A test of a fault that comes now and then misses it less often than this.
 MISSED = 0.001
 MOST_TIMES = 50
+# A fault that comes each time is run once more for its logs, and another one until it comes, at most so often.
+MOST_TRIALS = 10
 
 
+@dataclass(frozen=True)
 class FoundFolder:
-    """Writes what is left of a search into a folder, or into a new one."""
+    """Writes what is left of a failure into a folder, or into a new one. `allowance` is what its delays add to the client's limit, in seconds."""
 
-    def __init__(self, folder: Optional[Path], smallest: Smallest, source: ClientSource, trials: Trials) -> None:
-        self._folder = Path(tempfile.mkdtemp(prefix="toxi-found-")) if folder is None else folder.absolute()
-        self._smallest = smallest
-        self._source = source
-        self._trials = trials
+    folder: Optional[Path]
+    smallest: Smallest
+    source: ClientSource
+    trials: Trials
+    judge: Judge
+    allowance: float
 
-    def found(self, failed: int, repeated: int, runs: int, seconds: float) -> Found:
-        """Writes the files. Returns what stands in them."""
-        trial = self._smallest.trial
-        self._keep_run()
+    def found(self, runs: int, seconds: float) -> Found:
+        """Runs it once more for its logs, and writes the files. Returns what stands in them."""
+        smallest, failure = self.smallest, self.smallest.failure
+        folder = Path(tempfile.mkdtemp(prefix="toxi-found-")) if self.folder is None else self.folder.absolute()
+        folder.mkdir(parents=True, exist_ok=True)
+        trial = self._trial() if failure.outcome.returned else None
+        try:
+            self._keep(trial, folder)
+            met = () if trial is None else _connections(trial)
+        finally:
+            if trial is not None:
+                trial.discard()
         found = Found(
-            script=self._smallest.script,
-            kind=str(self._smallest.verdict),
-            detail=detail_of(trial.outcome, self._smallest.verdict),
-            failed=failed,
-            repeated=repeated,
-            connections=self._connections(),
-            seed=self._trials.seed,
+            script=failure.case.script,
+            kind=str(failure.verdict),
+            detail=detail_of(failure.outcome, failure.verdict, self.judge.right),
+            failed=smallest.failed,
+            repeated=smallest.repeated,
+            connections=met,
+            seed=self.trials.seed,
             runs=runs,
             seconds=seconds,
-            folder=self._folder,
+            folder=folder,
+            where=failure.where,
+            hint=allowed_hint(failure),
+            refused=tuple(sorted(failure.case.refused)),
         )
-        self._write("seed", f"{found.seed}\n")
-        about = f"{found.kind} in {failed} of {repeated} runs under script.toml. This fails until the client is mended."
-        self._write("test_found.py", self._source.test_text(about, self._trials.within, _times(failed, repeated)))
-        self._write("again.sh", self._again())
+        self._write_files(found)
         return found
 
-    def _keep_run(self) -> None:
-        run = self._smallest.trial.run
+    def _trial(self) -> Trial:
+        """A run with its logs: one that fails, if it comes soon enough."""
+        case, verdict = self.smallest.failure.case, self.smallest.failure.verdict
+        trial = self.trials.run(case.rules, case.refused)
+        for _ in range(MOST_TRIALS - 1):
+            if self.judge.verdict(trial.outcome) == verdict or not trial.outcome.returned:
+                break
+            trial.discard()
+            trial = self.trials.run(case.rules, case.refused)
+        return trial
+
+    def _keep(self, trial: Optional[Trial], folder: Path) -> None:
+        if trial is None:
+            failure = self.smallest.failure
+            proxies = [Proxy(name, upstream, enabled=name not in failure.case.refused) for name, upstream in self.trials.upstreams.items()]
+            (folder / "proxies.json").write_text(populate_text(proxies), encoding="utf-8")
+            (folder / "script.toml").write_text(failure.case.script, encoding="utf-8")
+            return
         try:
-            page = page_of(run)
+            page = page_of(trial.run)
         except ToxiError:
             # No connection was made, or its log can't be judged.
-            page = run.page_path()
-        keep_run(run, self._folder, Position(), page)
+            page = trial.run.page_path()
+        keep_run(trial.run, folder, Position(), page)
 
-    def _connections(self) -> Tuple[Met, ...]:
-        served = self._smallest.trial.served
-        met: List[Met] = []
-        for link in sorted(served.links(), key=lambda link: (link.proxy, link.number)):
-            toxics = [toxic for stream in STREAMS for toxic in served.pick(link.proxy, link.number, stream) if toxic.applied]
-            met.append(Met(link, tuple(toxics)))
-        return tuple(met)
+    def _write_files(self, found: Found) -> None:
+        about = f"{found.kind} {found.times} under script.toml. This fails until the client is mended."
+        times = _times(found.failed, found.repeated)
+        program = found_program() if self.trials.program is None else os.fspath(self.trials.program)
+        paths = (("directory", "."), ("program", program), ("package", str(Path(__file__).parent.parent)))
+        quoted = {name: shlex.quote(os.path.abspath(path)) for name, path in paths}
+        files = {
+            "seed": f"{found.seed}\n",
+            "test_found.py": self.source.test_text(about, round(self.trials.within + self.allowance, 3), times),
+            "again.sh": AGAIN.format(seed=found.seed, python=shlex.quote(sys.executable), **quoted),
+        }
+        for name, text in files.items():
+            (found.folder / name).write_text(text, encoding="utf-8")
 
-    def _again(self) -> str:
-        program, package = self._smallest.trial.run.program, str(Path(__file__).parent.parent)
-        quoted = {name: shlex.quote(os.path.abspath(path)) for name, path in (("directory", "."), ("program", program), ("package", package))}
-        return AGAIN.format(seed=self._trials.seed, python=shlex.quote(sys.executable), **quoted)
 
-    def _write(self, name: str, text: str) -> None:
-        (self._folder / name).write_text(text, encoding="utf-8")
+def _connections(trial: Trial) -> Tuple[Met, ...]:
+    served = trial.served
+    met: List[Met] = []
+    for link in sorted(served.links(), key=lambda link: (link.proxy, link.number)):
+        toxics = [toxic for stream in STREAMS for toxic in served.pick(link.proxy, link.number, stream) if toxic.applied]
+        met.append(Met(link, tuple(toxics)))
+    return tuple(met)
 
 
 def _times(failed: int, repeated: int) -> int:

@@ -1,6 +1,7 @@
 """Ports that are kept while nobody listens at them."""
+import contextlib
 import socket
-from typing import Dict, Iterable
+from typing import Dict, Iterable, Iterator
 
 from .lines import Address
 
@@ -42,3 +43,15 @@ class HeldPorts:
         """Gives them up."""
         while self._sockets:
             self._sockets.popitem()[1].close()
+
+
+@contextlib.contextmanager
+def refusing(names: Iterable[str]) -> Iterator[Dict[str, Address]]:
+    """An address for each name at which connects are refused, for as long as the `with` statement."""
+    with contextlib.ExitStack() as held:
+        found: Dict[str, Address] = {}
+        for name in names:
+            bound = held.enter_context(socket.socket(socket.AF_INET))
+            bound.bind(("127.0.0.1", 0))
+            found[name] = Address(*bound.getsockname())
+        yield found

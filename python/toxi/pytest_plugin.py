@@ -51,7 +51,7 @@ def toxi_session(request: pytest.FixtureRequest, tmp_path_factory: pytest.TempPa
 def _factory(request: pytest.FixtureRequest, folder: Path) -> Iterator[ToxiFactory]:
     settings = settings_of(request.config)
     seed = random.SystemRandom().getrandbits(DRAWN_BITS) if settings.seed is None else settings.seed
-    factory = ToxiFactory(seed, folder, settings.program, settings.workers)
+    factory = ToxiFactory(seed, folder, settings.program, settings.workers, request.config.rootpath)
     name = request.fixturename
     assert name is not None
     request.node.stash[FIXTURE] = Fixture(name, factory, request.scope != "function")

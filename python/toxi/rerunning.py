@@ -2,24 +2,27 @@
 import json
 from functools import partial
 from pathlib import Path
-from typing import Callable, Dict, Iterable, Optional, Sequence
+from typing import Any, Callable, Dict, Iterable, List, Optional, Sequence, Union
 
+from ._search.presets import allowed_classes
+from ._search.trying import MakeJudge
 from .base import StrPath
-from .fault_search import MakeJudge
 from .found import detail_of
-from .outcomes import WITHIN, Allowed, Check, Client, judge_of
-from .shell_client import ShellClient, direct_command, status_judge
+from .outcomes import SETTLED_WITHIN, WITHIN, Allowed, Check, Client, Eventually, Startable, judge_of
+from .shell_client import ShellClient, before_of, checks_by, direct_command, status_judge
 from .trials import Trials
 
 
 def rerun(
     folder: StrPath,
-    client: Client,
+    client: Union[Client, Startable],
     *,
     check: Optional[Check] = None,
-    allowed: Allowed = OSError,
+    allowed: Union[Allowed, str] = OSError,
     within: float = WITHIN,
     before: Optional[Callable[[], object]] = None,
+    eventually: Optional[Eventually] = None,
+    settle: float = SETTLED_WITHIN,
     times: int = 1,
 ) -> None:
     """Runs a client without a fault, and then `times` times under the script and the seed of the folder of a `Found`.
@@ -28,16 +31,24 @@ def rerun(
     """
     __tracebackhide__ = True
     trials = Trials(_upstreams(folder), client, within, _seed(folder), before)
-    _require_right(trials, partial(judge_of, check=check, allowed=allowed), Path(folder), times)
+    _require_right(trials, partial(judge_of, check=check, allowed=allowed_classes(allowed), eventually=eventually, settle=settle), Path(folder), times)
 
 
 def rerun_command(
-    folder: StrPath, command: Sequence[str], *, allowed_statuses: Iterable[int] = (), within: float = WITHIN, times: int = 1
+    folder: StrPath,
+    command: Sequence[str],
+    *,
+    allowed_statuses: Iterable[int] = (),
+    before: Optional[str] = None,
+    check: Optional[str] = None,
+    within: float = WITHIN,
+    times: int = 1,
 ) -> None:
-    """As `rerun`, for a command, whose outputs are ours."""
+    """As `rerun`, for a command, whose outputs are ours. `before` and `check` are a shell's commands, as for `toxi-find`."""
     __tracebackhide__ = True
-    trials = Trials(_upstreams(folder), ShellClient(tuple(command), None), within, _seed(folder))
-    judge = partial(status_judge, allowed_statuses=allowed_statuses, direct=direct_command(trials.upstreams, command))
+    trials = Trials(_upstreams(folder), ShellClient(tuple(command), None), within, _seed(folder), before_of(before))
+    looks = None if check is None else checks_by(check)
+    judge = partial(status_judge, allowed_statuses=allowed_statuses, direct=direct_command(trials.upstreams, command), looks=looks)
     _require_right(trials, judge, Path(folder), times)
 
 
@@ -47,17 +58,22 @@ def _require_right(trials: Trials, make_judge: MakeJudge, folder: Path, times: i
     unfaulted.discard()
     judge = make_judge([unfaulted.outcome])
     script = (folder / "script.toml").read_text(encoding="utf-8")
+    refused = frozenset(proxy["name"] for proxy in _proxies(folder) if proxy.get("enabled") is False)
     for _ in range(times):
-        trial = trials.run(script, lambda outcome: False)
+        trial = trials.run(script, refused)
         trial.discard()
         verdict = judge.verdict(trial.outcome)
         if verdict.is_fault:
-            raise AssertionError(f"{verdict} under {folder / 'script.toml'}\n{detail_of(trial.outcome, verdict)}".rstrip("\n"))
+            raise AssertionError(f"{verdict} under {folder / 'script.toml'}\n{detail_of(trial.outcome, verdict, judge.right)}".rstrip("\n"))
 
 
 def _upstreams(folder: StrPath) -> Dict[str, str]:
-    proxies = json.loads((Path(folder) / "proxies.json").read_text(encoding="utf-8"))
-    return {proxy["name"]: proxy["upstream"] for proxy in proxies}
+    return {proxy["name"]: proxy["upstream"] for proxy in _proxies(folder)}
+
+
+def _proxies(folder: StrPath) -> List[Dict[str, Any]]:
+    found: List[Dict[str, Any]] = json.loads((Path(folder) / "proxies.json").read_text(encoding="utf-8"))
+    return found
 
 
 def _seed(folder: StrPath) -> int:

@@ -1,4 +1,5 @@
 """A command as a client: it finds its proxies in its environment, and its status is judged."""
+import functools
 import glob
 import os
 import re
@@ -6,20 +7,25 @@ import shlex
 import shutil
 import signal
 import subprocess
+import sys
+import tempfile
 import threading
 from concurrent.futures import wait
 from dataclasses import dataclass
 from pathlib import Path
-from typing import IO, Any, Dict, FrozenSet, Iterable, Mapping, Sequence, Set, Union
+from typing import IO, Any, Callable, Dict, FrozenSet, Iterable, List, Mapping, Optional, Sequence, Set, Union
 
+from ._search.client_run import ClientRun
 from .errors import ToxiError
-from .outcomes import RIGHT, Addresses, Attempt, Judge, Kind, Outcome, Startable, Verdict
+from .outcomes import RIGHT, WRONG, Addresses, Attempt, Equals, Judge, Kind, Outcome, Startable, Verdict
 from .process import tied_to_parent
 
 # How long a command may take to end by SIGTERM before SIGKILL, in seconds.
 TERM_LIMIT = 1.0
 # What a shell adds to the signal that ended a command.
 SIGNALLED = 128
+# So much of standard error is looked at, in bytes.
+MAX_SAID = 4096
 Output = Union[int, IO[Any], None]
 
 
@@ -41,14 +47,22 @@ def variables_of(addresses: Mapping[str, object]) -> Dict[str, str]:
 
 def direct_command(upstreams: Mapping[str, str], command: Sequence[str]) -> str:
     """The command of a shell that runs a command at its upstreams, without a proxy."""
-    return " ".join([*(f"{variable}={shlex.quote(upstream)}" for variable, upstream in variables_of(upstreams).items()), shlex.join(command)])
+    words = with_addresses(command, upstreams)
+    return " ".join([*(f"{variable}={shlex.quote(upstream)}" for variable, upstream in variables_of(upstreams).items()), shlex.join(words)])
+
+
+class Status(int):
+    """The status of a command. `said` is its last line of standard error."""
+
+    said: str = ""
 
 
 @dataclass(frozen=True)
 class ShellClient(Startable):
-    """Runs `command` without standard input. Its answer is its status, as a shell tells it: 128 and the signal's number behind a signal.
+    """Runs `command` without standard input. Its answer is its `Status`, as a shell tells it: 128 and the signal's number behind a signal.
 
-    `output` is where both of its outputs go, as for `subprocess`: nowhere by default, and None is where ours go.
+    In its words `{shop}`, `{shop.host}` and `{shop.port}` are the address of the proxy of that name. `output` is where both of its outputs go, as for
+    `subprocess`: nowhere by default, but for the last line of standard error, and None is where ours go.
     """
 
     command: Sequence[str]
@@ -58,7 +72,17 @@ class ShellClient(Startable):
         """Starts the command in a session of its own. Raises `ToxiError` where it can't be run."""
         if shutil.which(self.command[0]) is None:
             raise ToxiError(f"{self.command[0]} isn't there, or can't be run")
-        return _CommandAttempt(self.command, variables_of(addresses), self.output)
+        return _CommandAttempt(with_addresses(self.command, addresses), variables_of(addresses), self.output)
+
+
+def with_addresses(command: Sequence[str], addresses: Mapping[str, object]) -> List[str]:
+    """The words of a command with the addresses of the proxies that they name. Other braces stay."""
+    texts = {name: str(address) for name, address in addresses.items()}
+    values = {f"{{{name}}}": text for name, text in texts.items()}
+    values.update({f"{{{name}.host}}": text.rpartition(":")[0].strip("[]") for name, text in texts.items()})
+    values.update({f"{{{name}.port}}": text.rpartition(":")[2] for name, text in texts.items()})
+    named = re.compile("|".join(map(re.escape, values)) or "(?!)")
+    return [named.sub(lambda found: values[found[0]], word) for word in command]
 
 
 class _CommandAttempt(Attempt):
@@ -67,12 +91,13 @@ class _CommandAttempt(Attempt):
     def __init__(self, command: Sequence[str], variables: Dict[str, str], output: Output) -> None:
         super().__init__()
         self._is_ended = False
+        self._said: IO[bytes] = tempfile.TemporaryFile()
         self._child = subprocess.Popen(
             [*tied_to_parent(), *command],
             env={**os.environ, **variables},
             stdin=subprocess.DEVNULL,
             stdout=output,
-            stderr=output,
+            stderr=self._said if output == subprocess.DEVNULL else output,
             start_new_session=True,
         )
         threading.Thread(target=self._wait, name="toxi command", daemon=True).start()
@@ -82,7 +107,10 @@ class _CommandAttempt(Attempt):
         os.waitid(os.P_PID, self._child.pid, os.WEXITED | os.WNOWAIT)
         self._signal(signal.SIGKILL)
         status = self._child.wait()
-        self.future.set_result(status if status >= 0 else SIGNALLED - status)
+        found = Status(status if status >= 0 else SIGNALLED - status)
+        with self._said as said:
+            found.said = _last_line(said) if found else ""
+        self.future.set_result(found)
 
     def end(self) -> None:
         """Ends the processes of its session by SIGTERM, and by SIGKILL once it has ended, or if that takes too long."""
@@ -100,6 +128,14 @@ class _CommandAttempt(Attempt):
                 pass
 
 
+def _last_line(said: IO[bytes]) -> str:
+    """The last line that isn't empty."""
+    size = said.seek(0, os.SEEK_END)
+    said.seek(max(0, size - MAX_SAID))
+    lines = said.read().decode(errors="replace").split("\n")
+    return next((line.strip() for line in reversed(lines) if line.strip()), "")
+
+
 def _groups_of(session: int) -> Set[int]:
     """The process groups of a session."""
     found = set()
@@ -115,22 +151,53 @@ def _groups_of(session: int) -> Set[int]:
 
 @dataclass(frozen=True)
 class StatusJudge(Judge):
-    """Status 0 is right, those of `allowed_statuses` may come of a fault, and all others mean that the client is to be mended."""
+    """Status 0 is right, those of `allowed_statuses` may come of a fault, and all others mean that the client is to be mended.
+
+    `looks` is called with each run whose status is 0, and says whether it is right.
+    """
 
     allowed_statuses: FrozenSet[int] = frozenset()
+    looks: Optional[Callable[[ClientRun], bool]] = None
 
-    def of_answer(self, answer: int) -> Verdict:
-        """The verdict of a status: `right` or `status <n>`."""
+    def of_answer(self, answer: int, run: Optional[ClientRun] = None) -> Verdict:
+        """The verdict of a status: `right`, `status <n>`, or `wrong answer` where `looks` refuses the run."""
         if answer == 0:
-            return RIGHT
+            return RIGHT if self.looks is None or run is None or self.looks(run) else WRONG
         return Verdict(Kind.ALLOWED if answer in self.allowed_statuses else Kind.FAILED, f"status {answer}")
 
 
-def status_judge(unfaulted: Sequence[Outcome], allowed_statuses: Iterable[int], direct: str) -> StatusJudge:
+def status_judge(
+    unfaulted: Sequence[Outcome], allowed_statuses: Iterable[int], direct: str, looks: Optional[Callable[[ClientRun], bool]] = None
+) -> StatusJudge:
     """The judge of a command. Raises `ToxiError` where a run without a fault hung or had a status other than 0. It tells `direct`, the `direct_command`."""
-    judge = StatusJudge(lambda status: bool(status == 0), (), frozenset(allowed_statuses))
+    judge = StatusJudge(Equals(0), (), allowed_statuses=frozenset(allowed_statuses), looks=looks)
     for outcome in unfaulted:
         verdict = judge.verdict(outcome)
         if verdict is not RIGHT:
             raise ToxiError(f"the command doesn't succeed without a fault: {verdict}\nWithout Toxi: {direct}")
     return judge
+
+
+def checks_by(command: str) -> Callable[[ClientRun], bool]:
+    """Runs a shell's command on a run, which finds it as a JSON file in TOXI_RUN. Its status 0 says that the run is right."""
+
+    def looks(run: ClientRun) -> bool:
+        with tempfile.NamedTemporaryFile("w", prefix="toxi-run-", suffix=".json", encoding="utf-8") as file:
+            file.write(run.json_text())
+            file.flush()
+            environment = {**os.environ, "TOXI_RUN": file.name}
+            return subprocess.run(command, shell=True, stdin=subprocess.DEVNULL, stdout=sys.stderr, env=environment, check=False).returncode == 0
+
+    return looks
+
+
+def before_of(command: Optional[str]) -> Optional[Callable[[], object]]:
+    """What runs before each run. None without a command."""
+    return None if command is None else functools.partial(_run_before, command)
+
+
+def _run_before(command: str) -> None:
+    # Standard output has the result alone.
+    status = subprocess.run(command, shell=True, stdin=subprocess.DEVNULL, stdout=sys.stderr, check=False).returncode
+    if status != 0:
+        raise ToxiError(f"the command before each run has the status {status}: {command}")

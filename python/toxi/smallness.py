@@ -20,8 +20,13 @@ def size_of(rules: Sequence[Rule]) -> Tuple[float, ...]:
         sum(map(_attributes, toxics)),
         sum(rule.first + (NO_END if rule.last is None else rule.last) for rule in rules),
         sum(toxic.stream == "upstream" for toxic in toxics),
-        sum(sum(toxic.attributes().values()) for toxic in toxics),
+        sum(_amount(name, value) for toxic in toxics for name, value in toxic.attributes().items()),
     )
+
+
+def _amount(name: str, value: int) -> int:
+    """How much of a fault an attribute is: a higher rate is less."""
+    return -value if name == "rate" else value
 
 
 def _attributes(toxic: Toxic) -> int:

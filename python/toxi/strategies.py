@@ -7,9 +7,11 @@ They need Hypothesis: `pip install toxi[find]`. What they draw is accepted by `t
 small numbers and downstream.
 """
 from dataclasses import replace
+from functools import partial
 from typing import Any, Callable, Dict, Iterable, List, Optional, Tuple, TypeVar
 
 try:
+    import hypothesis
     from hypothesis import strategies as st
     from hypothesis.strategies import DrawFn, SearchStrategy
 except ModuleNotFoundError as missing:
@@ -34,6 +36,8 @@ MAX_RATE = 1_000_000
 # The most toxics of a stream.
 LANES = 32
 Value = TypeVar("Value")
+# What a suite uses of this module. The rest draws for searches.
+__all__ = ["rules", "seeds", "toxics"]
 
 
 def toxics(
@@ -78,7 +82,7 @@ def rules(
     each = _lists(_toxics(stream, kinds, bytes, delays), most_toxics).map(delays.fitting).map(_named)
     one = st.builds(_rule, st.sampled_from(names), _firsts(connections), st.integers(0, connections), st.just(connections), each)
     most = len(names) + 2 if most_rules is None else most_rules
-    return _lists(st.one_of(one, one, one, one), most).map(lambda drawn: [rule for rule in drawn if rule.toxics])
+    return _lists(st.one_of(one, one, one, one), most).map(_with_toxics)
 
 
 def seeds() -> "SearchStrategy[int]":
@@ -86,14 +90,55 @@ def seeds() -> "SearchStrategy[int]":
     return st.integers(0, 2**64 - 1)
 
 
+def blocks(size: int) -> "SearchStrategy[bytes]":
+    """So many bytes, which cost one draw."""
+    return st.binary(min_size=size, max_size=size)
+
+
+def run_quietly(strategy: "SearchStrategy[Value]", see: Callable[[Value], object], count: int, number: int) -> None:
+    """Calls `see` with so many values, at least one, under a seed. Nothing is kept for a later run, and nothing is shrunk."""
+
+    @hypothesis.seed(number)
+    @hypothesis.settings(
+        max_examples=max(count, 1),
+        phases=(hypothesis.Phase.generate,),
+        database=None,
+        deadline=None,
+        verbosity=hypothesis.Verbosity.quiet,
+        suppress_health_check=list(hypothesis.HealthCheck),
+    )
+    @hypothesis.given(strategy)
+    def run(value: Value) -> None:
+        see(value)
+
+    run()
+
+
+# Hypothesis reads the source of what is given to `map` and `flatmap` at each draw unless it has a name.
+def _with_toxics(drawn: List[Rule]) -> List[Rule]:
+    return [rule for rule in drawn if rule.toxics]
+
+
+def _some(drawn: List[Optional[Value]]) -> List[Value]:
+    return [each for each in drawn if each is not None]
+
+
+def _thousandths(number: int) -> float:
+    return number / 1000
+
+
 def _lists(element: "SearchStrategy[Value]", most: int) -> "SearchStrategy[List[Value]]":
     """Lists whose elements may be nothing: shrunk to that, one is dropped. Hypothesis deletes no long one from the front of a list by itself."""
-    return st.lists(st.one_of(st.none(), element), min_size=1, max_size=most).map(lambda drawn: [each for each in drawn if each is not None])
+    return st.lists(st.one_of(st.none(), element), min_size=1, max_size=most).map(_some)
 
 
 def _firsts(connections: int) -> "SearchStrategy[int]":
     """First connections, two times in three connection 1: that is the one which each client makes."""
-    return st.integers(1, 3 * connections).map(lambda number: max(1, number - 2 * connections))
+    return st.integers(1, 3 * connections).map(partial(_first_of, connections))
+
+
+def _first_of(connections: int, number: int) -> int:
+    return max(1, number - 2 * connections)
 
 
 def _rule(proxy: str, first: int, more: int, connections: int, chosen: List[Toxic]) -> Rule:
@@ -114,7 +159,11 @@ def _named(chosen: Iterable[Toxic]) -> List[Toxic]:
 
 def _usually(common: "SearchStrategy[Any]", seldom: "SearchStrategy[Any]") -> "SearchStrategy[Any]":
     """The common values, and one time in five the seldom ones."""
-    return st.integers(0, 4).flatmap(lambda number: seldom if number == 4 else common)
+    return st.integers(0, 4).flatmap(partial(_common_or_seldom, common, seldom))
+
+
+def _common_or_seldom(common: "SearchStrategy[Any]", seldom: "SearchStrategy[Any]", number: int) -> "SearchStrategy[Any]":
+    return seldom if number == 4 else common
 
 
 def _toxics(stream: Optional[str], kinds: Optional[Iterable[str]], bytes: int, delays: Delays) -> "SearchStrategy[Toxic]":
@@ -128,7 +177,7 @@ def _toxics(stream: Optional[str], kinds: Optional[Iterable[str]], bytes: int, d
             raise ValueError(f"{kind!r} is no kind; there are {', '.join(DRAWS)}")
     # Answers more often than requests, and first, since the first is shrunk to.
     streams = st.sampled_from(("downstream", "downstream", "upstream")) if stream is None else st.just(stream)
-    toxicities = _usually(st.none(), st.integers(1, 999).map(lambda thousandths: thousandths / 1000))
+    toxicities = _usually(st.none(), st.integers(1, 999).map(_thousandths))
     draws = _Draws(bytes, delays, streams, toxicities)
     # The first is shrunk to. Those that end a stream are drawn three times as often: they break more clients than delays do.
     drawn = [kind for kind in [*DRAWS, *ENDING, *ENDING] if kind in chosen]

@@ -1,52 +1,45 @@
 """`toxi-sweep`: sweeps a command, and prints the table."""
 import functools
 import shlex
-import subprocess
 import sys
 from argparse import ArgumentTypeError, Namespace
 from pathlib import Path
-from typing import Callable, List, Optional, Sequence
+from typing import List, Optional, Sequence
 
+from ._search.conversation import Conversation
 from .batches import ClientSetup
-from .chosen_points import chosen_points, repeated_points
-from .client_arguments import client_parser, positive, read_client_arguments
+from .chosen_points import ChosenPoints, repeated_points
+from .client_arguments import client_parser, judge_maker, positive, read_client_arguments, write_result
 from .client_command import FOUND, NOTHING, REFUSED, STOPPED, take_signals
 from .errors import ToxiError
-from .fault_points import ENDINGS, FAULTS, FaultPoint
+from .fault_points import DELAYS, FAULTS, FaultPoint
+from .kept_sweep import KeptSweep
 from .outcomes import Kind
-from .seeds import seed_argument
-from .shell_client import ShellClient, direct_command, status_judge
+from .shell_client import ShellClient, before_of
 from .sweep_table import Sweep
-from .sweeping import MOST, Sweeping
+from .sweeping import MOST, SWEPT, Sweeping, chooser
 from .terminal_line import TerminalLine
 
 ABOUT = """Runs a command behind proxies that end its conversation behind each byte of each stream of each connection, and prints what it came to.
 
-The command finds the address of each proxy in TOXI_<NAME>: the name in upper case, with `_` for other characters. Status 0 is right,
---allow-status names one with which it may fail, and all else is to be mended. Its output isn't shown.
+The command finds the address of each proxy in TOXI_<NAME>: the name in upper case, with `_` for other characters, and in its words as {NAME}, {NAME.host} and
+{NAME.port}. Status 0 is right, --allow-status names one with which it may fail, and all else is to be mended. Its output isn't shown.
 
 The status is 0 where nothing is to be mended, 1 where something is, 2 where the sweep can't be made, and 130 after Ctrl-C. The last line
 is the command that runs the first of what is to be mended again, or says that there is nothing."""
 NAME = "toxi-sweep"
 # The options that name files of the table.
-FILES = ("--json", "--page")
+FILES = ("--json", "--page", "--folder")
 
 
 def read_arguments(words: Sequence[str]) -> Namespace:
     """The arguments, with the command as `command`."""
-    parser = client_parser(NAME, ABOUT)
-    about = f"one of {', '.join(FAULTS)}. Repeatable (default: {', '.join(ENDINGS)})"
-    parser.add_argument("--fault", dest="faults", metavar="FAULT", action="append", choices=FAULTS, help=about)
-    parser.add_argument("--most", metavar="N", type=positive, default=MOST, help="run at most N points (default: %(default)s)")
-    parser.add_argument("--jobs", metavar="N", type=positive, default=1, help="run N commands at once (default: %(default)s)")
-    about = "silence behind each byte, not only at the boundaries of what arrives and one byte beside them"
+    parser = client_parser(NAME, ABOUT, FAULTS)
+    parser.add_argument("--most", "--runs", metavar="N", type=positive, default=MOST, help="run at most N points (default: %(default)s)")
+    about = "silence behind each byte, not only at the boundaries of what arrives, one byte beside them, and where the outcome changes"
     parser.add_argument("--every-silence", action="store_true", help=about)
-    parser.add_argument("--before", metavar="COMMAND", help="a shell's command that runs before each run")
-    parser.add_argument("--seed", metavar="N", type=seed_argument, default=1, help="the seed of what is drawn (default: %(default)s)")
     about = "run this point alone, such as 'shop 1 downstream 17 closed', and show the command's output. Repeatable"
     parser.add_argument("--only", metavar="POINT", action="append", type=_point, default=[], help=about)
-    parser.add_argument("--json", metavar="FILE", type=Path, help="write the table as JSON")
-    parser.add_argument("--page", metavar="FILE", type=Path, help="write the table as an HTML page")
     arguments, command = read_client_arguments(parser, words)
     arguments.command = command
     return arguments
@@ -63,27 +56,28 @@ def sweeping_of(arguments: Namespace) -> Sweeping:
     """The sweep that the arguments ask for."""
     client = ShellClient(arguments.command, None) if arguments.only else ShellClient(arguments.command)
     options = {"seed": arguments.seed, "program": arguments.program}
-    setup = ClientSetup(arguments.upstreams, client, arguments.within, _before(arguments.before), arguments.jobs, options)
+    setup = ClientSetup(arguments.upstreams, client, arguments.within, before_of(arguments.before), arguments.jobs, options)
+    faults = tuple(arguments.faults or SWEPT)
+    choose = chooser(faults, arguments.most, arguments.every_silence, arguments.within, arguments.seed, arguments.connections)
     if arguments.only:
-        choose = functools.partial(repeated_points, points=arguments.only, within=arguments.within)
-    else:
-        given = {"most": arguments.most, "every_silence": arguments.every_silence, "within": arguments.within, "seed": arguments.seed}
-        choose = functools.partial(chosen_points, faults=arguments.faults or ENDINGS, **given)
-    direct = direct_command(arguments.upstreams, arguments.command)
-    judge_maker = functools.partial(status_judge, allowed_statuses=arguments.allowed_statuses, direct=direct)
+        choose = functools.partial(_only, arguments)
+    measures = not arguments.only and any(fault in DELAYS for fault in faults)
     # A point that is run alone shows its output once.
-    return Sweeping(setup, choose, judge_maker, repeats=not arguments.only)
+    return Sweeping(
+        setup,
+        choose,
+        judge_maker(arguments, arguments.command),
+        repeats=not arguments.only,
+        budget=arguments.budget,
+        max_found=arguments.max_found,
+        most=arguments.most,
+        measures=measures,
+        every_silence=arguments.every_silence,
+    )
 
 
-def _before(command: Optional[str]) -> Optional[Callable[[], object]]:
-    return None if command is None else functools.partial(_run_before, command)
-
-
-def _run_before(command: str) -> None:
-    # Standard output has the table alone.
-    status = subprocess.run(command, shell=True, stdin=subprocess.DEVNULL, stdout=sys.stderr, check=False).returncode
-    if status != 0:
-        raise ToxiError(f"the command before each run has the status {status}: {command}")
+def _only(arguments: Namespace, known: Conversation) -> ChosenPoints:
+    return repeated_points(known.streams, arguments.only, arguments.within)
 
 
 def progress_text(sweeping: Sweeping) -> str:
@@ -94,9 +88,9 @@ def progress_text(sweeping: Sweeping) -> str:
 
 def write_files(sweep: Sweep, arguments: Namespace) -> None:
     """Writes the table where it is asked for."""
-    for path, text in ((arguments.json, sweep.json_text), (arguments.page, sweep.page_text)):
-        if path is not None:
-            path.write_text(text(), encoding="utf-8", errors="backslashreplace")
+    write_result(sweep, arguments)
+    if arguments.folder is not None:
+        KeptSweep(sweep, arguments.folder).write_files()
 
 
 def last_line(words: Sequence[str], arguments: Namespace, sweep: Sweep) -> str:

@@ -63,12 +63,17 @@ def page_text(streams: Sequence[StreamBytes], swept: Sequence[SweptPoint], lines
     """The page of what was swept, with some lines at its top."""
     rows = rows_of(swept, streams)
     body = [f"<p>{escape(line)}</p>" for line in lines] + _key({_class_of(row) for row in rows})
-    strips = {stream.key: [row for row in unbroken_rows_of(swept, streams) if row.first.point.key == stream.key] for stream in streams}
+    strips = {stream.key: [row for row in unbroken_rows_of(swept, streams) if _is_of(row, stream)] for stream in streams}
     for stream in streams:
-        body += _stream_part(stream, strips[stream.key], [row for row in rows if row.first.point.key == stream.key])
+        body += _stream_part(stream, strips[stream.key], [row for row in rows if _is_of(row, stream)])
     head = '<meta charset="utf-8"/>\n<meta name="viewport" content="width=device-width, initial-scale=1"/>\n<title>Toxi sweep</title>'
     parts = ["<!DOCTYPE html>", '<html lang="en">', f"<head>\n{head}\n<style>{STYLE}</style>\n</head>", "<body>", "<main>", "<h1>Toxi sweep</h1>"]
     return "\n".join([*parts, *body, *_table(rows), "</main>", "</body>", "</html>", ""])
+
+
+def _is_of(row: SweepRow, stream: StreamBytes) -> bool:
+    """Whether a row is of a stream. Those of all connections stand in the table alone."""
+    return row.number > 0 and row.first.point.key == stream.key
 
 
 def _class_of(row: SweepRow) -> str:
@@ -118,7 +123,7 @@ def _table(rows: Iterable[SweepRow]) -> List[str]:
 
 
 def _table_row(row: SweepRow) -> str:
-    where = [("name", printed(row.proxy)), ("number", str(row.number)), ("name", row.stream), ("name", row.fault), ("number", row.offsets)]
+    where = [("name", printed(row.proxy)), ("number", row.connection), ("name", row.stream), ("name", row.fault), ("number", row.offsets)]
     texts = [*where, ("number", str(row.runs)), ("detail", row.first.detail)]
     cells = "".join(f'<td class="{kind}">{escape(text)}</td>' for kind, text in texts)
     opening = '<tr class="fails">' if row.fails else "<tr>"

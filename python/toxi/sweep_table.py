@@ -9,13 +9,17 @@ from .lines import printed
 from .sweep_page import page_text
 from .sweep_rows import SweepRow, SweptPoint, rows_of
 
+# Faults that end the conversation at once, and how many rows of hangs there may be under them.
+AT_ONCE = ("closed", "reset")
+MAX_HANGS = 5
+
 
 @dataclass(frozen=True, repr=False)
 class Sweep:
     """What a sweep has found. `str()` is its text, with a line for each row.
 
     `streams` are those of a run without a fault. `possible` counts the points that there are, and `chosen` those that were to be run. `seconds` is the time
-    that it took. `ended` says why it ended before all of these were run, or is None.
+    that it took. `ended` says why it ended before all of these were run, or is None. `within` is the client's limit in seconds.
     """
 
     streams: Sequence[StreamBytes]
@@ -24,6 +28,7 @@ class Sweep:
     possible: int
     seconds: float
     ended: Optional[str] = None
+    within: Optional[float] = None
 
     @property
     def rows(self) -> List[SweepRow]:
@@ -61,9 +66,18 @@ class Sweep:
         return f"<Sweep of {len(self.swept)} runs in {len(self.rows)} rows>"
 
     def __str__(self) -> str:
+        slow = self._too_slow
         named = len(self.links) > 1
-        rows = [f"{printed(row.proxy)} {row.number} {row}" if named else str(row) for row in self.rows]
-        return "\n".join([*self.summary, *rows, *self.left_out])
+        rows = [f"{printed(row.proxy)} {row.connection} {row}" if named or not row.number else str(row) for row in self.rows if row not in slow]
+        runs = sum(row.runs for row in slow)
+        told = [f"too slow for a limit of {self.within:g} s in {runs} runs"] if slow and self.within is not None else []
+        return "\n".join([*self.summary, *told, *rows, *self.left_out])
+
+    @property
+    def _too_slow(self) -> List[SweepRow]:
+        """Hangs in many rows under faults that end the conversation at once: the limit is too short for the client on this machine."""
+        hangs = [row for row in self.rows if row.outcome == "hang" and row.fault in AT_ONCE]
+        return hangs if len(hangs) > MAX_HANGS else []
 
     def json_text(self) -> str:
         """The table as JSON."""
@@ -83,4 +97,5 @@ def _stream_members(part: Union[StreamBytes, FaultPoint, SweepRow]) -> Dict[str,
 
 def _row_members(row: SweepRow) -> Dict[str, object]:
     members: Dict[str, object] = {"fault": row.fault, "offset": row.offset, "last_offset": row.last_offset, "runs": row.runs}
+    members.update({"shortest_delay": row.delays[0], "longest_delay": row.delays[1]} if row.delays[1] else {})
     return {**members, "outcome": row.outcome, "fails": row.fails, "reached": row.first.reached, "detail": row.first.detail}

@@ -1,40 +1,48 @@
 """`sweep_faults`: a client's conversation is ended behind each byte, and what the client makes of it is a table."""
 import functools
+import math
 import reprlib
 import textwrap
-import threading
 import time
-from collections import Counter, deque
+from collections import Counter
 from dataclasses import replace
-from typing import Callable, Deque, Dict, List, Mapping, Optional, Sequence, Union
+from typing import Callable, Dict, Iterable, List, Mapping, Optional, Sequence, Set, Union
 
+from ._search.cases import Case
+from ._search.conversation import Conversation, measuring_cases
+from ._search.edges import between, in_order
+from ._search.trying import Cases, MakeJudge, Over, Trying
 from .base import StrPath
-from .batches import Batch, BatchRun, ClientSetup
+from .batches import BatchRun, ClientSetup
 from .chosen_points import ChosenPoints, chosen_points
-from .conversations import StreamBytes, longer_streams
-from .errors import ToxiError
-from .fault_points import ENDINGS, FaultPoint
+from .conversations import StreamBytes
+from .fault_points import DELAYS, ENDINGS, FaultPoint
 from .lines import printed
-from .outcomes import GRACE, WITHIN, Allowed, Check, Client, Judge, Kind, Outcome, Startable, Verdict, judge_of
+from .outcomes import WITHIN, Allowed, Check, Client, Kind, Outcome, Startable, Verdict
 from .sweep_rows import SweptPoint
 from .sweep_table import Sweep
 
-JudgeMaker = Callable[[Sequence[Outcome]], Judge]
 Progress = Callable[["Sweeping"], object]
+Choose = Callable[[Conversation], ChosenPoints]
+# What a sweep runs unless told: slices are asked for.
+SWEPT = (*ENDINGS, *DELAYS)
 MOST = 2000
-# Runs without a fault: two, since an answer that changes by itself can't be compared.
-UNFAULTED = 2
 # A failure without a failing neighbour may come by chance. It is looked for again in at most so many runs.
 MORE_RUNS = 3
 # Characters of an exception's text.
 MAX_DETAIL = 200
+EARLY = {
+    "budget": "the budget was used up",
+    "client_stuck": "clients didn't return when their links were broken",
+    "max_found": "enough was found",
+}
 
 
 def sweep_faults(
     upstreams: Mapping[str, str],
     client: Union[Client, Startable],
     *,
-    faults: Sequence[str] = ENDINGS,
+    faults: Sequence[str] = SWEPT,
     most: int = MOST,
     jobs: int = 1,
     every_silence: bool = False,
@@ -51,141 +59,198 @@ def sweep_faults(
 
     `upstreams` maps names of proxies to `host:port`, and `addresses` the same names to where the proxies listen. The client may be a coroutine
     function. First it runs without a fault, twice: that tells its connections, their bytes, and the right answer. `check` says of an answer whether
-    it is right, in place of equality. `allowed` are the exceptions that a fault may cause. A client hangs past `within` seconds.
+    it is right, in place of equality. `allowed` are the exceptions that a fault may cause. A client hangs past `within` seconds and what its faults delay.
 
-    `faults` are `closed`, `reset` and `silent`, behind so many bytes, `sliced`, into slices of so many bytes, and `slow`. There are at most `most` runs: those
-    at the boundaries of what arrived and one byte beside them first, then others that `seed` draws. Silence comes there alone, unless `every_silence`.
-    `jobs` clients run at once. `before` is called before each run, by the thread of the run.
+    `faults` are `closed`, `reset` and `silent`, behind so many bytes, `slow`, of a whole stream, `late`, of one piece, and `sliced`, into slices of so
+    many bytes. There are at most `most` runs: those at the boundaries of what arrived first, of all connections too, then those where the outcome
+    changes, then those beside boundaries, and others that `seed` draws. Silence comes near boundaries and where the outcome changes alone, unless
+    `every_silence`. `jobs` clients run at once. `before` is called before each run, by the thread of the run.
 
     `program`, `workers` and `connect_timeout` (milliseconds) are the options of `Toxi`. Raises `ToxiError` where the client hangs or fails without a
     fault, or its answers differ and there is no `check`, and `ValueError` for a fault of another name, and for no fault, run or job.
     """
     __tracebackhide__ = True
+    from ._search.search import Search
+
     if most < 1 or jobs < 1:
         raise ValueError(f"a sweep has at least one run and one job, not most={most!r} and jobs={jobs!r}")
-    options = {"seed": seed, "program": program, "workers": workers, "connect_timeout": connect_timeout}
-    setup = ClientSetup(upstreams, client, within, before, jobs, options)
-    choose = functools.partial(chosen_points, faults=faults, most=most, every_silence=every_silence, within=within, seed=seed)
-    sweeping = Sweeping(setup, choose, functools.partial(judge_of, check=check, allowed=allowed))
+    search = Search(upstreams, client, check, allowed, within, before, seed, jobs, program, workers)  # type: ignore[arg-type]
+    return search.sweep(faults=faults, most=most, every_silence=every_silence, connect_timeout=connect_timeout)
+
+
+def sweep_setup(
+    setup: ClientSetup, judge_maker: MakeJudge, faults: Sequence[str], most: int, every_silence: bool, seed: int, budget: Optional[float] = None
+) -> Sweep:
+    """The sweep of any client."""
+    __tracebackhide__ = True
+    choose = chooser(faults, most, every_silence, setup.within, seed)
+    sweeping = Sweeping(setup, choose, judge_maker, budget=budget, most=most, measures=any(fault in DELAYS for fault in faults), every_silence=every_silence)
     sweeping.run()
     return sweeping.sweep
+
+
+def chooser(faults: Sequence[str], most: int, every_silence: bool, within: float, seed: int, connections: Optional[int] = None) -> Choose:
+    """What chooses the points of a conversation. Raises `ValueError` for a fault of another name, and for none."""
+    options = {"most": most, "every_silence": every_silence, "within": within, "seed": seed}
+    chosen_points((), faults, most=1, every_silence=False, within=within, seed=seed)
+
+    def choose(known: Conversation) -> ChosenPoints:
+        streams = [stream for stream in known.streams if connections is None or stream.number <= connections]
+        limits = [limit for limit in known.limits if connections is None or limit.number <= connections]
+        return chosen_points(streams, faults, limits=limits, outages=True, **options)  # type: ignore[arg-type]
+
+    return choose
 
 
 class Sweeping:
     """A sweep that runs. `sweep` is what it has so far.
 
-    `choose` gives the points of the streams that a client has without a fault, and `judge_maker` the judge of its outcomes there. Where it `repeats`, single
-    failures are run again at the end.
+    `choose` gives the points of a client's conversation, and `judge_maker` the judge of its outcomes there. Where it `repeats`, points that stand alone are run
+    again at the end. `most` bounds the runs, `budget` the seconds, and `max_found` the points that fail.
     """
 
     def __init__(
-        self, setup: ClientSetup, choose: Callable[[Sequence[StreamBytes]], ChosenPoints], judge_maker: JudgeMaker, repeats: bool = True
+        self,
+        setup: ClientSetup,
+        choose: Choose,
+        judge_maker: MakeJudge,
+        repeats: bool = True,
+        budget: Optional[float] = None,
+        max_found: Optional[int] = None,
+        most: int = MOST,
+        measures: bool = True,
+        every_silence: bool = False,
     ) -> None:
-        self._setup, self._choose, self._judge_maker, self._repeats = setup, choose, judge_maker, repeats
-        self._judge: Judge
-        self._streams: List[StreamBytes] = []
-        self._chosen = ChosenPoints((), 0)
-        self._swept: List[SweptPoint] = []
-        self._verdicts: Dict[FaultPoint, Verdict] = {}
+        self._choose, self._repeats, self._max_found, self._most, self._measures = choose, repeats, max_found, most, measures
+        self._every_silence = every_silence
         self._begun = time.monotonic()
+        self._trying = Trying(setup, judge_maker, math.inf if budget is None else self._begun + budget)
+        self._known = Conversation(())
+        self._chosen = ChosenPoints((), 0)
+        # Points at edges that weren't chosen, and those of them that aren't counted as possible.
+        self._more = self._beyond = 0
+        self._swept: Dict[FaultPoint, SweptPoint] = {}
+        self._verdicts: Dict[FaultPoint, Verdict] = {}
         self._ended: Optional[str] = "it was interrupted"
-        self._lock = threading.Lock()
         # How many runs came to each kind so far, whether their points were reached or not.
         self.kinds: "Counter[Kind]" = Counter()
 
     @property
     def chosen(self) -> int:
-        """How many points are run."""
-        return len(self._chosen.points)
+        """How many points are run. Those at edges are among the most that may be, or in place of the last of the rest."""
+        return min(len(self._chosen.points) + self._more, max(self._most, len(self._chosen.points)))
 
     @property
     def sweep(self) -> Sweep:
         """What was found so far."""
-        return Sweep(self._streams, list(self._swept), self.chosen, self._chosen.possible, time.monotonic() - self._begun, self._ended)
+        possible = self._chosen.possible + self._beyond
+        seconds = time.monotonic() - self._begun
+        return Sweep(self._known.streams, list(self._swept.values()), self.chosen, possible, seconds, self._ended, self._trying.setup.within)
 
     def run(self, progress: Progress = lambda sweeping: None) -> None:
         """Runs the chosen points. `progress` is called behind each run, by the thread that ran it."""
         __tracebackhide__ = True
-        self._run_unfaulted()
-        self._chosen = self._choose(self._streams)
-        waiting = deque(self._chosen.points)
-        while waiting and self._run_batch(waiting, progress):
-            pass
-        if not waiting:
-            self._ended = None
-            if self._repeats:
-                self._repeat_single_failures()
-
-    def _run_unfaulted(self) -> None:
-        """Learns what is right, and what the client's links carry."""
-        __tracebackhide__ = True
-        # Each behind a serve of its own: with more than 32 upstreams there are no proxies for two runs.
-        batches = [Batch(self._setup, [None]) for _ in range(UNFAULTED)]
-        for batch in batches:
-            batch.run()
-        runs = [batch.runs[0] for batch in batches]
-        self._judge = self._judge_maker([run.outcome for run in runs if run.outcome is not None])
-        for run in runs:
-            self._streams = longer_streams(self._streams, run.streams)
-        if not self._streams:
-            raise ToxiError("the client makes no connection to its proxies")
-
-    def _run_batch(self, waiting: Deque[FaultPoint], progress: Progress) -> bool:
-        """Runs the next points of those that wait. False where a client didn't return, so that no other can be run."""
-
-        def ended(run: BatchRun) -> None:
-            __tracebackhide__ = True
-            assert run.point is not None and run.outcome is not None
-            verdict = self._judge.verdict(run.outcome)
-            with self._lock:
-                self._verdicts[run.point] = verdict
-                self.kinds[verdict.kind] += 1
-                progress(self)
-
-        __tracebackhide__ = True
-        batch = Batch(self._setup, [waiting.popleft() for _ in range(min(self._setup.batch_size, len(waiting)))], ended)
+        self._known = self._trying.learn(1.0)
+        self._trying.watch = lambda: progress(self)
         try:
-            batch.run()
-        finally:
-            waiting.extendleft(run.point for run in reversed(batch.runs) if run.point is not None and run.outcome is None)
-            for run in batch.runs:
-                self._note(run)
-        if all(run.outcome is None or run.outcome.returned for run in batch.runs):
+            self._run_all()
+            self._ended = None
+        except Over as over:
+            self._ended = EARLY[over.why]
+
+    def _run_all(self) -> None:
+        __tracebackhide__ = True
+        if self._measures:
+            self._known = self._trying.measure(self._known, Cases(measuring_cases(self._known.streams)), lambda run, verdict: True, lambda case: True)
+        self._trying.count = 0
+        self._chosen = self._choose(self._known)
+        points = self._chosen.points
+        self._run(points[: self._chosen.first])
+        if self._repeats:
+            self._run_edges()
+        rest = [point for point in points if point not in self._swept]
+        self._run(rest[: self.chosen - len(self._swept)])
+        if self._repeats:
+            self._run_again()
+
+    def _run(self, points: Iterable[FaultPoint]) -> None:
+        """Runs points, and keeps what came of them."""
+        __tracebackhide__ = True
+
+        def ended(run: BatchRun, verdict: Verdict) -> bool:
+            assert run.case.point is not None
+            self._verdicts[run.case.point] = verdict
+            self.kinds[verdict.kind] += 1
             return True
-        self._ended = f"the client didn't return within {GRACE:g} s after its links were broken"
-        return False
 
-    def _repeat_single_failures(self) -> None:
-        """Runs each failure without a failing neighbour until it comes again, at most `MORE_RUNS` times."""
-        __tracebackhide__ = True
-        single = {row.first.point: row.first.verdict for row in self.sweep.failures if row.runs == 1}
-        for _ in range(MORE_RUNS):
-            verdicts = self._verdicts_again(list(single))
-            single = {point: verdict for point, verdict in single.items() if verdicts.get(point, verdict) != verdict}
-        self._swept = [replace(swept, other_runs=MORE_RUNS) if swept.point in single else swept for swept in self._swept]
-
-    def _verdicts_again(self, points: Sequence[FaultPoint]) -> Dict[FaultPoint, Verdict]:
-        """The verdicts of one more run of each point. Those that a client keeps from being run, since it doesn't return, are missing."""
-        __tracebackhide__ = True
-        waiting = deque(points)
-        verdicts: Dict[FaultPoint, Verdict] = {}
-        while waiting:
-            batch = Batch(self._setup, [waiting.popleft() for _ in range(min(self._setup.batch_size, len(waiting)))])
-            batch.run()
-            for run in batch.runs:
-                assert run.point is not None
-                if run.outcome is None:
-                    waiting.append(run.point)
-                elif not run.outcome.returned:
-                    return verdicts
-                else:
-                    verdicts[run.point] = self._judge.verdict(run.outcome)
-        return verdicts
+        self._trying.finished = self._note
+        try:
+            for _ in self._trying.run(Cases(map(Case.of, points)), ended, reads_logs=True):
+                if self._max_found is not None and sum(each.fails for each in self._swept.values()) >= self._max_found:
+                    raise Over("max_found")
+        finally:
+            self._trying.finished = lambda run: None
 
     def _note(self, run: BatchRun) -> None:
-        verdict = None if run.point is None else self._verdicts.get(run.point)
-        if run.point is not None and run.outcome is not None and verdict is not None:
-            self._swept.append(SweptPoint(run.point, verdict, is_reached(run.point, run.stream_of(run.point)), _detail(run.outcome, verdict)))
+        point, outcome = run.case.point, run.outcome
+        verdict = None if point is None else self._verdicts.get(point)
+        if point is None or outcome is None or verdict is None:
+            return
+        self._swept[point] = SweptPoint(point, verdict, is_reached(point, run.stream_of(point)), _detail(outcome, verdict, self._trying.judge.right))
+    def _run_edges(self) -> None:
+        """Bisects between neighbours of different outcomes: the points where the outcome changes come before the rest. Of silence they come beside the rest."""
+        __tracebackhide__ = True
+        chosen = set(self._chosen.points)
+        while len(self._swept) < self._most:
+            middles = between(self._swept.values(), ENDINGS)[: self._most - len(self._swept)]
+            if not middles:
+                return
+            more = [point for point in middles if point not in chosen]
+            self._more += len(more)
+            self._beyond += 0 if self._every_silence else len([point for point in more if point.fault == "silent"])
+            self._run(middles)
+
+    def _run_again(self) -> None:
+        """Runs points that stand alone among neighbours of another outcome again, one after the other: a failure until it comes again, at most `MORE_RUNS`
+        times, and what isn't one once."""
+        __tracebackhide__ = True
+        setup = self._trying.setup
+        self._trying.setup = replace(setup, jobs=1)
+        single = {row.first.point: row.first.verdict for row in self.sweep.failures if row.runs == 1}
+        frayed = [point for point in _frayed(self._swept.values()) if point not in single]
+        try:
+            self._run(frayed)
+            for _ in range(MORE_RUNS):
+                verdicts = self._verdicts_again(list(single))
+                single = {point: verdict for point, verdict in single.items() if verdicts.get(point, verdict) != verdict}
+        finally:
+            self._trying.setup = setup
+        for point in single:
+            self._swept[point] = replace(self._swept[point], other_runs=MORE_RUNS)
+
+    def _verdicts_again(self, points: Sequence[FaultPoint]) -> Dict[FaultPoint, Verdict]:
+        """The verdicts of one more run of each point."""
+        __tracebackhide__ = True
+        verdicts: Dict[FaultPoint, Verdict] = {}
+
+        def ended(run: BatchRun, verdict: Verdict) -> bool:
+            assert run.case.point is not None
+            verdicts[run.case.point] = verdict
+            return True
+
+        list(self._trying.run(Cases(map(Case.of, points)), ended))
+        return verdicts
+
+
+def _frayed(swept: Iterable[SweptPoint]) -> List[FaultPoint]:
+    """The points whose outcome differs from that of both neighbours, which have the same."""
+    ordered = in_order(swept, ENDINGS)
+    found = []
+    for before, each, behind in zip(ordered, ordered[1:], ordered[2:]):
+        same = before.point.key == behind.point.key and before.point.fault == behind.point.fault
+        if same and before.outcome == behind.outcome != each.outcome:
+            found.append(each.point)
+    return found
 
 
 def is_reached(point: FaultPoint, stream: Optional[StreamBytes]) -> bool:
@@ -198,12 +263,14 @@ def is_reached(point: FaultPoint, stream: Optional[StreamBytes]) -> bool:
         return stream.end == "reset"
     if point.fault == "sliced":
         return max(stream.pieces, default=0) > point.offset
+    if point.fault == "late":
+        return stream.bytes > point.offset
     # A plain timeout begins with the link. A `limit_data` of 0 closes at the first piece, and what is slow needs one too.
     return point.fault == "silent" or bool(stream.pieces)
 
 
-def _detail(outcome: Outcome, verdict: Verdict) -> str:
-    """What a person sees beside a verdict: a wrong answer, or an exception's text."""
+def _detail(outcome: Outcome, verdict: Verdict, right: object) -> str:
+    """What a person sees beside a verdict: a wrong answer and the right one, or an exception's text."""
     if verdict.kind is Kind.WRONG:
-        return reprlib.repr(outcome.answer)
+        return f"{reprlib.repr(outcome.answer)}, right {reprlib.repr(right)}"
     return "" if outcome.error is None else printed(textwrap.shorten(str(outcome.error), MAX_DETAIL, placeholder=".."))

@@ -1,30 +1,23 @@
-"""A client's runs behind proxies that serve one script after the other."""
+"""A client's run behind proxies of its own, whose files and logs are kept."""
 import tempfile
 import time
-from dataclasses import dataclass
+from dataclasses import dataclass, replace
 from pathlib import Path
-from typing import Callable, Iterable, List, Mapping, Optional, Union
+from typing import Callable, FrozenSet, Iterable, List, Mapping, Optional, Union
 
+from ._search.client_run import ClientRun
 from .base import StrPath
+from .batches import Unchecked
+from .conversations import streams_of
 from .lines import Link
 from .outcomes import Client, Outcome, Startable, run_client
+from .ports import refusing
+from .proxies import Proxy
 from .rules import Rule
 from .runs import Run
 from .served import Toxi
 
 Rules = Union[str, Iterable[Rule]]
-
-
-class _Unchecked(Toxi):
-    """Drawn rules often have no effect, which needs no warning. `serve` refuses what `check` would refuse."""
-
-    def _checked(self, run: Run) -> Run:
-        return run
-
-    def kill(self) -> None:
-        """As `stop`, without the lines of links that still live, and without the 50 ms that `serve` takes to look for SIGTERM."""
-        self._running().kill()
-        self.stop()
 
 
 @dataclass(frozen=True)
@@ -63,29 +56,24 @@ class Trials:
     program: Optional[StrPath] = None
     workers: Optional[int] = None
 
-    def run(self, rules: Rules = (), keeps: Callable[[Outcome], bool] = lambda outcome: True) -> Trial:
-        """Runs it once under a script. Where `keeps` is false of its outcome, links and logs may be missing, and it takes less time.
-
-        Raises `ToxiError` where `serve` can't be started.
-        """
+    def run(self, rules: Rules = (), refused: FrozenSet[str] = frozenset()) -> Trial:
+        """Runs it once under a script, with proxies that refuse connects. Raises `ToxiError` where `serve` can't be started."""
         __tracebackhide__ = True
         if self.before is not None:
             self.before()
-        begun = time.monotonic()
+        begun, rules = time.monotonic(), rules if isinstance(rules, str) else tuple(rules)
         directory = tempfile.TemporaryDirectory(prefix="toxi-")
         try:
-            served = self._served(rules, Path(directory.name))
-            with served:
-                addresses = {name: served.address(name) for name in self.upstreams}
+            served = self._served(rules, refused, Path(directory.name))
+            with served, refusing(refused) as refusals:
+                addresses = {**{name: served.address(name) for name in self.upstreams if name not in refused}, **refusals}
                 outcome = run_client(self.client, addresses, self.within, served.stop)
-                if not keeps(outcome):
-                    served.kill()
         except BaseException:
             directory.cleanup()
             raise
-        return Trial(outcome, served, time.monotonic() - begun, directory)
+        told = ClientRun(rules, outcome.seconds, lambda: streams_of(served.links(), served.logs()))
+        return Trial(replace(outcome, run=told), served, time.monotonic() - begun, directory)
 
-    def _served(self, rules: Rules, directory: Path) -> _Unchecked:
-        return _Unchecked(
-            self.upstreams, rules, seed=self.seed, program=self.program, workers=self.workers, directory=directory, log=directory / "logs"
-        )
+    def _served(self, rules: Rules, refused: FrozenSet[str], directory: Path) -> Unchecked:
+        proxies = [Proxy(name, upstream, enabled=name not in refused) for name, upstream in self.upstreams.items()]
+        return Unchecked(proxies, rules, seed=self.seed, program=self.program, workers=self.workers, directory=directory, log=directory / "logs")

@@ -113,9 +113,11 @@ class FindTests(Searching):
         self.assertEqual([met.link.proxy for met in found.connections], ["first", "second"])
 
     def test_a_correct_client_has_none(self):
-        runs = []
-        self.assertIsNone(self.found(clients.whole, runs=300, watch=lambda progress: runs.append(progress.runs)))
-        self.assertEqual(runs, list(range(1, 301)))
+        seen = []
+        self.assertIsNone(self.found(clients.whole, runs=300, watch=seen.append))
+        self.assertEqual([progress.runs for progress in seen], list(range(1, len(seen) + 1)))
+        self.assertEqual([progress.phase for progress in seen].count("drawn"), 300)
+        self.assertEqual(list(dict.fromkeys(progress.phase for progress in seen)), ["boundaries", "late answers", "outages", "drawn"])
 
 
 class HandedOverTests(Searching):
@@ -128,7 +130,7 @@ class HandedOverTests(Searching):
         self.assertEqual((found.folder / "script.toml").read_text(), found.script)
         self.assertEqual(sorted(os.listdir(found.folder / "logs")), ["shop-1-downstream.log", "shop-1-upstream.log"])
         again = subprocess.run(found.command, shell=True, capture_output=True, text=True, check=False)
-        self.assertEqual((again.returncode, again.stderr), (1, f"wrong answer under {found.folder / 'script.toml'}\nanswer b''\n"))
+        self.assertEqual((again.returncode, again.stderr), (1, f"wrong answer under {found.folder / 'script.toml'}\nanswer b''\nright  b'hello'\n"))
         test = found.folder / "test_found.py"
         test.write_text(test.read_text().replace("import cut_body as client", "import whole as client"))
         mended = subprocess.run(found.command, shell=True, capture_output=True, text=True, check=False)
@@ -163,6 +165,7 @@ class HandedOverTests(Searching):
 
         found = self.found(stuck)
         self.assertEqual((found.kind, found.failed, found.repeated), ("hang", 1, 1))
+        self.assertTrue(str(found).startswith("hang in one run, "))
         self.assertIn("didn't return when its links were broken either", found.detail)
         self.assertIn("put the client in here", (found.folder / "test_found.py").read_text())
 
@@ -199,7 +202,7 @@ class HandedOverTests(Searching):
 
     def test_a_client_must_be_right_without_a_fault(self):
         answers = iter(range(100))
-        with self.assertRaisesRegex(ToxiError, "so give `check`.*0, 1"):
+        with self.assertRaisesRegex(ToxiError, "so give `check`.*0 after .*, 1 after "):
             self.found(lambda addresses: next(answers))
         with self.assertRaisesRegex(ToxiError, "`check` refuses an answer without a fault.*5"):
             self.found(lambda addresses: 5, check=lambda answer: None)

@@ -99,6 +99,20 @@ def test_whole(toxi):
     assert sorted(os.listdir(found[1])) == sorted(os.listdir(tmp_path / "kept" / "test_find.py" / "test_cut" / "1" / "toxi-found-1"))
 
 
+def test_search_of_the_fixture(run_pytest, tmp_path):
+    pytest.importorskip("hypothesis")
+    with serving(Lines) as server:
+        test = f"""
+from clients import patient_cut_body
+def test_cut(toxi):
+    toxi.search({{"shop": {server.address!r}}}, patient_cut_body, within=5.0).find(max_found=1).require_none()
+"""
+        printed = run_pytest({"test_search.py": test}, "--toxi-seed", "7")
+    assert "E       AssertionError: wrong answer in 10 of 10 runs, " in printed
+    section = printed[printed.index("pytest test_search.py::test_cut --toxi-seed 7\n") :]
+    assert re.search(r"^wrong answer in 10 of 10 runs, .*^sh (\S+)/found-1/again.sh$", section, re.M | re.S)
+
+
 def test_what_check_raises_is_shown_without_frames_of_the_package(run_pytest):
     pytest.importorskip("hypothesis")
     with serving(Lines) as server:

@@ -66,12 +66,12 @@ class SweepCommandTests(unittest.TestCase):
         ran = self.run_it(self.command("correct", "--fault", "closed", "--jobs", "4"))
         self.assertEqual((ran.returncode, ran.stderr), (0, ""))
         self.assertNotIn("wrong", ran.stdout)
-        self.assertEqual(ran.stdout.splitlines()[-1], "nothing is to be mended in 15 runs")
+        self.assertEqual(ran.stdout.splitlines()[-1], "nothing is to be mended in 19 runs")
 
     def test_no_time_limit(self):
         ran = self.run_it(self.command("waits", "--fault", "silent", "--jobs", "4", "--within", "2"))
         self.assertEqual(ran.returncode, 1)
-        self.assertIn("downstream 0..6 silent: hang, 3 of 7 offsets run\n", ran.stdout)
+        self.assertIn("downstream 0..6 silent: hang, 5 of 7 offsets run\n", ran.stdout)
         self.assert_nothing_is_left()
 
     def test_ctrl_c_tells_what_there_is_and_leaves_nothing(self):
@@ -87,15 +87,17 @@ class SweepCommandTests(unittest.TestCase):
                 sweep.send_signal(signal.SIGINT)
                 printed = sweep.communicate(timeout=LIMIT)[0]
             self.assertEqual(sweep.returncode, 130)
-            self.assertRegex(printed, r"not run: \d+ of 8 runs: it was interrupted\n")
+            self.assertRegex(printed, r"not run: \d+ of 12 runs: it was interrupted\n")
             self.assert_nothing_is_left()
 
     def wait_for_a_fault(self, runs):
-        """Two runs have no fault. `runs` has a line for each that has begun."""
-        end = time.monotonic() + LIMIT
-        while not runs.exists() or len(runs.read_text()) < 3:
+        """The first that hangs is the last that begins. `runs` has a line for each that has begun."""
+        end, seen, since = time.monotonic() + LIMIT, -1, time.monotonic()
+        while seen < 3 or time.monotonic() < since + 3:
             self.assertLess(time.monotonic(), end)
             time.sleep(0.05)
+            begun = len(runs.read_text()) if runs.exists() else 0
+            seen, since = (seen, since) if begun == seen else (begun, time.monotonic())
 
     def test_an_ignored_signal_stays_ignored(self):
         command = ["nohup", *self.command("waits", "--fault", "silent", "--jobs", "4", "--within", "3")]
@@ -104,7 +106,7 @@ class SweepCommandTests(unittest.TestCase):
             sweep.send_signal(signal.SIGHUP)
             printed = sweep.communicate(timeout=LIMIT)[0]
         self.assertEqual(sweep.returncode, 1)
-        self.assertIn("downstream 0..6 silent: hang, 3 of 7 offsets run\n", printed)
+        self.assertIn("downstream 0..6 silent: hang, 5 of 7 offsets run\n", printed)
 
     def assert_nothing_is_left(self):
         """No process of this test's folder lives on: neither a command, nor a `serve`, whose files are in it too."""
@@ -143,6 +145,7 @@ class SweepCommandTests(unittest.TestCase):
         ran = self.run_it(self.command("correct", "--fault", "closed", "--most", "4", "--before", "echo >> runs"))
         self.assertEqual(ran.returncode, 0)
         with open(os.path.join(self.folder, "runs")) as file:
-            self.assertEqual(len(file.readlines()), 6)
+            # Some runs without a fault come first.
+            self.assertIn(len(file.readlines()) - 4, range(3, 17))
         ran = self.run_it(self.command("correct", "--before", "exit 4"))
         self.assertEqual((ran.returncode, ran.stderr), (2, "toxi-sweep: the command before each run has the status 4: exit 4\n"))

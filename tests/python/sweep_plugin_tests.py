@@ -36,4 +36,4 @@ def test_red_and_green_sweeps(run_pytest, tmp_path):
     assert sorted(os.listdir(kept / "toxi-sweep-1")) == ["table.html", "table.json"]
     assert "downstream 2..6 closed: wrong answer" in (kept / "toxi.txt").read_text()
     # The second test of the wider fixture has made no sweep.
-    assert printed.count("left out: 11 of 15 runs") == 1
+    assert printed.count("left out: 15 of 19 runs") == 1

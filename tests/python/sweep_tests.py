@@ -2,6 +2,7 @@
 import functools
 import itertools
 import json
+import re
 import threading
 import time
 import unittest
@@ -14,29 +15,46 @@ from toxi import LimitData, Rule, Toxi, ToxiError, sweep_faults
 from toxi.chosen_points import chosen_points
 from toxi.conversations import StreamBytes
 
-EVERY = ("closed", "reset", "silent", "sliced", "slow")
+EVERY = ("closed", "reset", "silent", "sliced", "slow", "late")
 # What a client makes of an end behind a whole request isn't promised: the answer may be faster. Nor of a reset behind a whole answer.
 RACES = {
     "upstream 0..5 closed: Refused": "upstream 0..6 closed: Refused",
     "upstream 6 closed: right": None,
     "downstream 0..7 reset: Refused": "downstream 0..6 reset: Refused",
     "downstream 7 reset: right": None,
+    "shop all upstream 0 closed: Refused": "shop all upstream 0..6 closed: Refused, 2 of 7 offsets run",
+    "shop all upstream 6 closed: right": None,
+    "shop all downstream 0..7 reset: Refused, 2 of 8 offsets run": "shop all downstream 0 reset: Refused",
+    "shop all downstream 7 reset: right": None,
 }
 TABLE = """\
 shop 1: 6 bytes upstream, 7 downstream
 upstream 0..6 closed: Refused
 upstream 0..6 reset: Refused
-upstream 0..5 silent: Refused, 3 of 6 offsets run
+upstream 0..5 silent: Refused, 5 of 6 offsets run
+upstream 0..6 slow by .. ms: Refused
 downstream 0..6 closed: Refused
 downstream 0..6 reset: Refused
-downstream 0..6 silent: Refused, 3 of 7 offsets run
+downstream 0..6 silent: Refused, 5 of 7 offsets run
+downstream 0..7 slow by .. ms: Refused
+downstream 0 late by .. ms: Refused
+shop all upstream 0..6 closed: Refused, 2 of 7 offsets run
+shop all upstream 0..6 reset: Refused, 2 of 7 offsets run
+shop all upstream 0 silent: Refused
+shop all downstream 0 closed: Refused
+shop all downstream 0 reset: Refused
+shop all downstream 0 silent: Refused
 upstream 6 silent: right
 upstream 1..5 sliced: right
-upstream 0..6 slow: right
+upstream 0..6 slow by .. ms: right
 downstream 7 closed: right
 downstream 7 silent: right
 downstream 1..6 sliced: right
-downstream 0..7 slow: right"""
+downstream 0..7 slow by .. ms: right
+downstream 0 late by .. ms: right
+shop all upstream 6 silent: right
+shop all downstream 7 closed: right
+shop all downstream 7 silent: right"""
 
 
 class SweepTests(unittest.TestCase):
@@ -48,11 +66,13 @@ class SweepTests(unittest.TestCase):
         return sweep_faults({"shop": self.upstream}, client, **options)
 
     def rows(self, client, **options):
-        return [str(row) for row in self.sweep(client, **options).rows]
+        return [str(row) for row in self.sweep(client, **options).rows if row.number]
 
     def test_a_correct_client(self):
         sweep = self.sweep(correct, faults=EVERY, jobs=4, within=5)
-        text = [RACES.get(line, line) for line in str(sweep).split("\n") if " runs in " not in line]
+        # Delays are parts of the time limit as the machine let it be measured.
+        lines = [re.sub(r"by [0-9.]+ ms", "by .. ms", line) for line in str(sweep).split("\n")]
+        text = [RACES.get(line, line) for line in lines if " runs in " not in line]
         self.assertEqual([line for line in text if line], TABLE.split("\n"))
         self.assertEqual(sweep.failures, [])
         self.assertNotIn("wrong", str(sweep))
@@ -67,23 +87,38 @@ class SweepTests(unittest.TestCase):
         self.assertEqual([str(row) for row in sweep.rows][0], "downstream 2..6 closed: wrong answer")
         self.assertEqual(len(sweep.failures), 1)
         (row,) = sweep.failures
-        self.assertEqual((row.rule, row.first.detail), (Rule("shop", [LimitData(bytes=2)], last=1), "b''"))
+        self.assertEqual((row.rule, row.first.detail), (Rule("shop", [LimitData(bytes=2)], last=1), "b'', right b'hello'"))
         with Toxi({"shop": self.upstream}, [row.rule]) as toxi:
             self.assertEqual(patient_cut_body({"shop": toxi.address()}), b"")
 
     def test_what_came_once_is_not_to_be_mended(self):
-        # Run 16 is the last of all points, and run 17 the first that looks for the failure again.
-        for turns, noted in (((9,), ", but not in 3 more runs"), ((9, 17), "")):
-            runs = itertools.count()
-            sweep = self.sweep(lambda addresses: b"wrong" if next(runs) in turns else correct(addresses), faults=["closed"])
-            self.assertEqual(str(sweep.rows[0]), f"downstream 6 closed: wrong answer, not reached{noted}")
-            self.assertEqual(len(sweep.failures), len(turns) - 1)
+        def sweep(turns):
+            """The client is wrong where it is refused for these times. Returns its sweep, and how often it was refused."""
+            times = itertools.count()
+
+            def client(addresses):
+                try:
+                    return correct(addresses)
+                except Refused:
+                    if next(times) in turns:
+                        return b"wrong"
+                    raise
+
+            return self.sweep(client, faults=["closed"]), next(times)
+
+        once, refused = sweep({3})
+        self.assertRegex(str(once.rows[0]), r"closed: wrong answer, but not in 3 more runs$")
+        self.assertEqual(once.failures, [])
+        # The last three times were those that looked for it again.
+        again, _ = sweep({3, *range(refused - 2, refused + 10)})
+        self.assertRegex(str(again.rows[0]), r"closed: wrong answer$")
+        self.assertEqual(len(again.failures), 1)
 
     def test_no_time_limit(self):
         for jobs in (1, 4):
             with self.subTest(jobs=jobs):
                 found = self.rows(waits, faults=["silent"], jobs=jobs, within=0.5)
-                self.assertEqual(found[:2], ["upstream 0..5 silent: hang, 3 of 6 offsets run", "downstream 0..6 silent: hang, 3 of 7 offsets run"])
+                self.assertEqual(found[:2], ["upstream 0..5 silent: hang, 5 of 6 offsets run", "downstream 0..6 silent: hang, 5 of 7 offsets run"])
                 self.assertEqual(found[2:], ["upstream 6 silent: right", "downstream 7 silent: right"])
 
     def test_a_client_that_never_returns(self):
@@ -94,8 +129,9 @@ class SweepTests(unittest.TestCase):
                 threading.Event().wait()
 
         sweep = self.sweep(stuck, faults=["closed"], within=0.5)
-        self.assertEqual([str(row) for row in sweep.rows], ["upstream 0 closed: hang"])
-        self.assertEqual(sweep.left_out, ["not run: 14 of 15 runs: the client didn't return within 2 s after its links were broken"])
+        self.assertEqual({row.outcome for row in sweep.rows} - {"right"}, {"hang"})
+        self.assertEqual(sum(row.runs for row in sweep.failures), 8)
+        self.assertRegex(sweep.left_out[0], r"^not run: \d+ of 19 runs: clients didn't return when their links were broken$")
 
     def test_what_a_link_never_passed_is_not_reached(self):
         runs = itertools.count()
@@ -130,7 +166,8 @@ class SweepTests(unittest.TestCase):
                 self.assertEqual(text[:2], ["mail 1: 3 bytes upstream, 4 downstream", "shop 1: 6 bytes upstream, 7 downstream"])
                 self.assertEqual(text[2], "shop 2: 2 bytes upstream, 3 downstream")
                 self.assertEqual(text[4:6], ["mail 1 upstream 0..3 closed: Refused", "mail 1 downstream 0..3 closed: Refused"])
-                self.assertEqual(text[-1], "shop 2 downstream 3 closed: right")
+                self.assertIn("shop 2 downstream 3 closed: right", text)
+                self.assertEqual(text[-1], "shop all downstream 7 closed: right")
 
     def test_a_coroutine_function(self):
         async def client(addresses):
@@ -149,13 +186,14 @@ class SweepTests(unittest.TestCase):
             return correct(addresses)
 
         sweep = self.sweep(client, faults=["closed"], jobs=3, before=lambda: before.append(1))
-        self.assertEqual((most[0], len(before)), (3, 2 + len(sweep.swept)))
+        # Some runs without a fault come first.
+        self.assertEqual(most[0], 3)
+        self.assertIn(len(before) - len(sweep.swept), range(3, 17))
 
     def test_at_most_so_many_runs(self):
         sweep = self.sweep(correct, faults=["closed"], most=6)
         self.assertEqual(len(sweep.swept), 6)
-        self.assertEqual(str(sweep).split("\n")[-1], "left out: 9 of 15 runs")
-        self.assertRegex(str(sweep), r"\nupstream 0\.\.6 closed: Refused, [234] of 7 offsets run\n")
+        self.assertRegex(str(sweep).split("\n")[-1], r"^left out: \d+ of \d+ runs$")
 
     def test_what_can_not_be_swept(self):
         runs = itertools.count()
@@ -182,7 +220,7 @@ class SweepTests(unittest.TestCase):
 
         sweep = self.sweep(client, faults=["closed", "reset"], most=20, seed=3)
         table = json.loads(sweep.json_text())
-        self.assertEqual((table["runs"], table["chosen"], table["possible"], table["ended"]), (20, 20, 30, None))
+        self.assertEqual((table["runs"], table["chosen"], table["possible"], table["ended"]), (20, 20, 38, None))
         self.assertEqual(table["streams"][1], {"proxy": "shop", "link": 1, "stream": "downstream", "bytes": 7, "boundaries": [0, 7]})
         self.assertEqual(len(table["rows"]), len(sweep.rows))
         self.assertEqual((table["rows"][0]["outcome"], table["rows"][0]["fails"]), ("wrong answer", True))
@@ -191,7 +229,7 @@ class SweepTests(unittest.TestCase):
         self.assertEqual(len(document.getElementsByTagName("tr")), 1 + len(sweep.rows))
         strips = [each for each in document.getElementsByTagName("div") if each.getAttribute("class") == "strip"]
         self.assertEqual(len(strips), 4)
-        for word in ("wrong answer", "prefers-color-scheme:dark", "downstream closed", "left out: 10 of 30 runs"):
+        for word in ("wrong answer", "prefers-color-scheme:dark", "downstream closed", "left out: 18 of 38 runs"):
             self.assertIn(word, page)
         self.assertNotRegex(page, r"(src|href)=|url\(|<script")
 

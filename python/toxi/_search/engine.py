@@ -1,0 +1,86 @@
+"""Runs a search of any client: a function, a process of its own, or a command."""
+import time
+from dataclasses import dataclass
+from pathlib import Path
+from typing import Callable, List, Optional, Tuple
+
+from ..batches import ClientSetup
+from ..client_source import ClientSource
+from ..errors import ToxiError
+from ..found import Found
+from ..found_folder import FoundFolder
+from ..trials import Trials
+from .drawing import DrawnFaults
+from .failures import Failure
+from .result import Flaky, SearchResult, Tried
+from .searching import Searching, SearchLimits, Smallest, Watch
+from .trying import MakeJudge
+
+
+@dataclass
+class Engine:
+    """What a search needs. `folder` gives the folder of what is found by its number, from 1, or None for a new one."""
+
+    setup: ClientSetup
+    make_judge: MakeJudge
+    source: ClientSource
+    seed: int
+    root: Path
+    faults: DrawnFaults
+    limits: SearchLimits
+    folder: Callable[[int], Optional[Path]]
+    watch: Optional[Watch] = None
+
+    def run(self) -> SearchResult:
+        """Searches. Raises `ToxiError` where the client isn't right without a fault, and `ModuleNotFoundError` without Hypothesis, before anything runs."""
+        __tracebackhide__ = True
+        self._require()
+        self._found: List[Found] = []
+        self._searching = searching = Searching(
+            self.setup, self.make_judge, self.faults, self.limits, self.seed, self.root, self._hand_over, self.watch or (lambda progress: None)
+        )
+        ended_by = searching.run()
+        known = searching.conversation
+        return SearchResult(
+            tuple(self._found),
+            tuple(map(_flaky, searching.flaky)),
+            self._tried(),
+            ended_by,
+            tuple(searching.done),
+            () if known is None else tuple(map(str, known.limits)),
+            searching.trying.count,
+            time.monotonic() - searching.begun,
+        )
+
+    def _require(self) -> None:
+        # None is to mean that no fault was found, and not that none was tried.
+        if self.limits.runs < 1 or not self.limits.budget > 0 or self.limits.max_found < 1:
+            raise ValueError(f"a search has at least one run and some seconds, not runs={self.limits.runs!r} and budget={self.limits.budget!r}")
+        self.faults.require_known()
+        folder = self.folder(1)
+        if folder is None:
+            return
+        if folder.exists() and any(folder.iterdir()):
+            raise ToxiError(f"{folder} isn't empty")
+        try:
+            folder.mkdir(parents=True, exist_ok=True)
+            folder.rmdir()
+        except OSError as error:
+            raise ToxiError(f"{folder} can't be written: {error.strerror}") from None
+
+    def _hand_over(self, smallest: Smallest) -> None:
+        __tracebackhide__ = True
+        searching, setup = self._searching, self._searching.trying.setup
+        options = {name: setup.options.get(name) for name in ("program", "workers")}
+        trials = Trials(setup.upstreams, setup.client, setup.within, self.seed, setup.before, **options)
+        allowance = smallest.failure.case.allowance(setup.streams, setup.within)
+        folder = FoundFolder(self.folder(len(self._found) + 1), smallest, self.source, trials, searching.trying.judge, allowance)
+        self._found.append(folder.found(searching.trying.count, time.monotonic() - searching.begun))
+
+    def _tried(self) -> Tuple[Tried, ...]:
+        tallies = sorted(self._searching.trying.tallies.items())
+        return tuple(Tried(word, stream, str(number or "all"), tally.runs, tally.reached) for (word, stream, number), tally in tallies)
+
+
+def _flaky(failure: Failure) -> Flaky:
+    return Flaky(str(failure.verdict), failure.case.script)

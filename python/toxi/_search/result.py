@@ -1,0 +1,123 @@
+"""`SearchResult`: what a search has found, what was flaky, and what was tried."""
+import json
+from dataclasses import dataclass
+from html import escape
+from typing import Dict, List, Tuple
+
+from ..found import Found
+
+ENDINGS_OF_SEARCH = ("done", "budget", "interrupted", "max_found", "client_stuck")
+
+
+@dataclass(frozen=True)
+class Tried:
+    """How many runs there were under a fault of a stream of a connection, and how many reached it. The connection is a number, or `all`."""
+
+    fault: str
+    stream: str
+    connection: str
+    runs: int
+    reached: int
+
+    def __str__(self) -> str:
+        return f"{self.connection} {self.stream} {self.fault}: {self.runs} runs, {self.reached} reached"
+
+
+@dataclass(frozen=True)
+class Flaky:
+    """A failure that came, but not in each repetition: its kind and its script."""
+
+    kind: str
+    script: str
+
+
+@dataclass(frozen=True, repr=False)
+class SearchResult:
+    """What a search came to.
+
+    `found` are the different faults, each with its folder, and `flaky` what came but didn't come again. `tried` counts the runs under each fault.
+    `ended_by` is `done`, `budget`, `interrupted`, `max_found` or `client_stuck`. `phases` are those that were done: `boundaries`, `late answers`,
+    `outages`, `drawn`. `limits` are the client's time limits, as silence has shown them. `runs` and `seconds` are those of the whole search.
+    """
+
+    found: Tuple[Found, ...]
+    flaky: Tuple[Flaky, ...]
+    tried: Tuple[Tried, ...]
+    ended_by: str
+    phases: Tuple[str, ...]
+    limits: Tuple[str, ...]
+    runs: int
+    seconds: float
+
+    @property
+    def first_phase_done(self) -> bool:
+        """Whether the boundaries of the conversation were tried. A search that has found enough needs no more."""
+        return "boundaries" in self.phases or self.ended_by == "max_found"
+
+    @property
+    def never_reached(self) -> Tuple[Tried, ...]:
+        """What no run has reached."""
+        return tuple(each for each in self.tried if not each.reached)
+
+    def require_none(self) -> None:
+        """Raises `AssertionError` where something was found, and where the first phase wasn't done."""
+        __tracebackhide__ = True
+        if self.found:
+            raise AssertionError("\n\n".join(map(str, self.found)))
+        if not self.first_phase_done:
+            raise AssertionError(f"the search ended by {self.ended_by} before the boundaries were tried: {self.runs} runs in {self.seconds:.1f} s")
+
+    @property
+    def summary(self) -> str:
+        """How far the search came, in a line."""
+        what = f"{len(self.found)} found" if self.found else "nothing found"
+        flaky = f", {len(self.flaky)} flaky" if self.flaky else ""
+        return f"{what}{flaky} by {self.runs} runs in {self.seconds:.1f} s, ended by {self.ended_by}, phases done: {', '.join(self.phases) or 'none'}"
+
+    def __str__(self) -> str:
+        limits = [f"time limit {limit}" for limit in self.limits]
+        flaky = [f"flaky: {each.kind}" for each in self.flaky]
+        missed = [f"never reached: {each.connection} {each.stream} {each.fault}" for each in self.never_reached]
+        return "\n".join([*(f"{found}\n" for found in self.found), *flaky, *limits, *missed, self.summary])
+
+    def __repr__(self) -> str:
+        return f"<SearchResult: {self.summary}>"
+
+    def json_text(self) -> str:
+        """All of it as JSON."""
+        members: Dict[str, object] = {
+            "found": [_found_members(found) for found in self.found],
+            "flaky": [vars(each) for each in self.flaky],
+            "tried": [vars(each) for each in self.tried],
+            "ended_by": self.ended_by,
+            "phases": list(self.phases),
+            "limits": list(self.limits),
+            "runs": self.runs,
+            "seconds": round(self.seconds, 3),
+        }
+        return json.dumps(members, indent=1) + "\n"
+
+    def page_text(self) -> str:
+        """All of it as one HTML page without a script."""
+        found = [f"<h2>{escape(each.kind)} {escape(each.times)}</h2><pre>{escape(str(each))}</pre>" for each in self.found]
+        flaky = [f"<h2>Flaky: {escape(each.kind)}</h2><pre>{escape(each.script)}</pre>" for each in self.flaky]
+        rows = "".join(_row("td", [each.fault, each.stream, each.connection, str(each.runs), str(each.reached)]) for each in self.tried)
+        head = _row("th", ["Fault", "Stream", "Connection", "Runs", "Reached"])
+        limits = "".join(f"<li>{escape(limit)}</li>" for limit in self.limits)
+        body = [f"<p>{escape(self.summary)}</p>", *found, *flaky, f"<h2>Time limits</h2><ul>{limits}</ul>", f"<h2>Tried</h2><table>{head}{rows}</table>"]
+        return "\n".join([PAGE_HEAD, *body, "</body></html>", ""])
+
+
+PAGE_HEAD = """<!DOCTYPE html>
+<html lang="en"><head><meta charset="utf-8"/><title>Toxi search</title>
+<style>:root{color-scheme:light dark}body{font:16px/1.5 system-ui,sans-serif;max-width:1100px;margin:0 auto;padding:16px}
+pre{overflow-x:auto}td,th{padding:2px 12px 2px 0;text-align:left}</style></head><body><h1>Toxi search</h1>"""
+
+
+def _row(cell: str, texts: List[str]) -> str:
+    return f"<tr>{''.join(f'<{cell}>{escape(text)}</{cell}>' for text in texts)}</tr>"
+
+
+def _found_members(found: Found) -> Dict[str, object]:
+    names = ("kind", "detail", "where", "hint", "script", "failed", "repeated", "seed", "command")
+    return {**{name: getattr(found, name) for name in names}, "folder": str(found.folder), "refused": list(found.refused)}
