@@ -1,5 +1,5 @@
-# Sourced by ../toxi where ./build has made no program and the released one is of another source: the kit's unproved program of the present one, compiled once and
-# kept in out/unproved. It is named by the sum of its source, so that it is compiled again when a source has changed.
+# Sourced by ../toxi where ./build has made no program and the released one is of another source: the kit's unproved program of the present one, compiled once
+# and kept in out/unproved. It is named by the sum of its source, so that it is compiled again when a source has changed.
 kept="$root/out/unproved"
 scratch=
 try=
@@ -12,6 +12,26 @@ keep_unproved() {
         can_keep && share_compile || return
     fi
     warn
+}
+
+# serves ARGUMENT..: whether a command line is of `serve`. An option may stand before the command.
+serves() {
+    [ "${1-}" != --explain ] || shift
+    [ "${1-}" = serve ]
+}
+
+# can_block: whether signals can be blocked for the program, and it can see them then.
+can_block() {
+    [ -r /proc/self/status ] && env --block-signal=HUP,INT,TERM true 2>/dev/null
+}
+
+# run_unproved ARGUMENT..: becomes the program. The kit links it without our start, which blocks the signals that `serve` looks for. The shell between is for a
+# path with `=`, which `env` would take for a variable.
+run_unproved() {
+    if serves "$@" && can_block; then
+        exec env --block-signal=HUP,INT,TERM sh -c 'exec "$0" "$@"' "$program" "$@"
+    fi
+    exec "$program" "$@"
 }
 
 # Once an hour, since each call would say it.

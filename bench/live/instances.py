@@ -45,7 +45,7 @@ class Instance:
         logs = os.path.join(self.folder, f"{name}-logs")
         entry = {"name": "bench", "listen": self.address, "upstream": self.service}
         options = ["--seed", str(self.seed), *proxies.ENGINES["workers"], *(["--verbose", "--log", logs] if logged else [])]
-        process, _, lines = proxies.serve(self.folder, name, [entry], script, options, proxies.BLOCKED)
+        process, _, lines = proxies.serve(self.folder, name, [entry], script, options)
         self.lives.append(Life(process, lines, logs))
 
     def end(self):

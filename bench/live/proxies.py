@@ -11,8 +11,6 @@ import time
 TOXI = os.path.join(os.path.dirname(os.path.abspath(__file__)), "..", "..", "crates", "toxi", "out", "toxi")
 # The ways in which `toxi serve` drives links.
 ENGINES = {"threads": [], "workers": ["--workers", "2"]}
-# With SIGTERM blocked `toxi serve` looks for the signal itself, and ends with its totals.
-BLOCKED = ["env", "--block-signal=TERM"]
 TICKS = os.sysconf("SC_CLK_TCK")
 PAGE = os.sysconf("SC_PAGE_SIZE")
 

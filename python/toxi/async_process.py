@@ -4,14 +4,11 @@ import os
 import signal
 import subprocess
 import weakref
-from dataclasses import dataclass
-from typing import Any, Awaitable, Callable, Coroutine, Generator, List, Optional, Sequence, TypeVar
+from typing import Any, Callable, Coroutine, List, Optional, Sequence
 
 from .commands import ERRORS, Answer, unstartable
-from .process import STOP_LIMIT, signals_blocked, tied_to_parent
+from .process import STOP_LIMIT, tied_to_parent
 from .program import environment
-
-Child = TypeVar("Child")
 
 
 class AsyncProcess:
@@ -27,7 +24,7 @@ class AsyncProcess:
     @classmethod
     async def started(cls, command: Sequence[str], lines: List[str], said: List[str]) -> "AsyncProcess":
         """Starts a command."""
-        return cls(await _SignalsBlocked(_start([*tied_to_parent(), *command], subprocess.DEVNULL)), lines, said)
+        return cls(await _start([*tied_to_parent(), *command], subprocess.DEVNULL), lines, said)
 
     async def _read(self, stream: Optional[asyncio.StreamReader], lines: List[str]) -> None:
         assert stream is not None
@@ -103,31 +100,6 @@ def _send(child: asyncio.subprocess.Process, number: int) -> None:
 def _start(command: Sequence[str], given: int) -> Coroutine[Any, Any, asyncio.subprocess.Process]:
     """Starts a command with pipes, and `given` as the standard input."""
     return asyncio.create_subprocess_exec(*command, stdin=given, stdout=subprocess.PIPE, stderr=subprocess.PIPE, env=environment())
-
-
-@dataclass
-class _SignalsBlocked(Awaitable[Child]):
-    """Runs a coroutine with the signals that end the program blocked, but not while it waits: other tasks don't see the mask.
-
-    asyncio starts a child without a wait in between, and the child inherits the mask.
-    """
-
-    starting: Coroutine[Any, Any, Child]
-
-    def __await__(self) -> Generator[Any, Any, Child]:
-        resume: Callable[[Any], Any] = self.starting.send
-        value: Any = None
-        while True:
-            try:
-                with signals_blocked():
-                    waited = resume(value)
-            except StopIteration as end:
-                child: Child = end.value
-                return child
-            try:
-                resume, value = self.starting.send, (yield waited)
-            except BaseException as error:
-                resume, value = self.starting.throw, error
 
 
 async def async_answer_of(command: Sequence[str], given: str = "", timeout: Optional[float] = None) -> Answer:

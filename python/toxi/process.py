@@ -10,8 +10,8 @@ from typing import IO, Callable, Iterator, List, Optional, Sequence
 
 from .program import environment
 
-# The program looks for these signals itself when they are blocked, and then ends with its totals.
-STOPPING = {signal.SIGTERM, signal.SIGINT}
+# Signals that end this process, and so must not come between the start of a child and the moment when it is kept.
+ENDING = {signal.SIGTERM, signal.SIGINT}
 # `serve` ends within 2 seconds of SIGTERM, or some more with thousands of links. A busy machine gets more, in seconds.
 STOP_LIMIT = 10
 
@@ -24,7 +24,7 @@ class Process:
 
     def __init__(self, command: Sequence[str], lines: List[str], said: List[str]) -> None:
         with contextlib.ExitStack() as undone:
-            with signals_blocked():
+            with signals_held():
                 self._child = subprocess.Popen(
                     [*tied_to_parent(), *command],
                     stdin=subprocess.DEVNULL,
@@ -116,9 +116,9 @@ def _kill(child: "subprocess.Popen[str]") -> None:
 
 
 @contextlib.contextmanager
-def signals_blocked() -> Iterator[None]:
-    """Blocks the signals that end the program. A child that is started meanwhile has them blocked."""
-    mask = signal.pthread_sigmask(signal.SIG_BLOCK, STOPPING)
+def signals_held() -> Iterator[None]:
+    """Holds back signals until a child that is started is kept. `serve`, which looks for them itself, may begin with them blocked."""
+    mask = signal.pthread_sigmask(signal.SIG_BLOCK, ENDING)
     try:
         yield
     finally:

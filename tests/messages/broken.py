@@ -123,7 +123,7 @@ def tells_nothing_of_a_stop(program, _folder):
     for way in WAYS:
         with socket.create_server(("127.0.0.1", 0)) as server:
             upstream = "127.0.0.1:%d" % server.getsockname()[1]
-            command = ["env", "--block-signal=TERM", program, "serve", "--listen", "127.0.0.1:0", "--upstream", upstream, "--seed", "1", *way]
+            command = [program, "serve", "--listen", "127.0.0.1:0", "--upstream", upstream, "--seed", "1", *way]
             with subprocess.Popen(command, stdin=subprocess.DEVNULL, stdout=subprocess.PIPE, stderr=subprocess.PIPE, encoding="utf-8") as child:
                 port = int(child.stdout.readline().rpartition(":")[2])
                 with socket.create_connection(("127.0.0.1", port), PATIENCE):

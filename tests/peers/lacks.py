@@ -6,7 +6,7 @@ import time
 
 from .registry import start
 from .served import Engine
-from .shim import environment
+from .shim import environment, with_shim
 from .stops import ALWAYS, Stopped, ended_links, log_of
 from .waiting import LIMIT, Failed, check, wait_until
 
@@ -101,11 +101,13 @@ def refused(program, folder, variable):
 
 
 @start
+@with_shim
 def refused_memory_is_told_so(program, folder):
     refused(program, folder, "TOXI_REFUSE_MEMORY")
 
 
 @start
+@with_shim
 def refused_registration_is_told_as_memory(program, folder):
     """Only a worker has sockets watched."""
     if Engine.workers:

@@ -3,12 +3,13 @@ import time
 
 from .registry import start
 from .served import Engine
-from .shim import environment
+from .shim import environment, with_shim
 from .stops import ALWAYS, Stopped
 from .waiting import check
 
 
 @start
+@with_shim
 def look_up_that_hangs_holds_up_no_other(program, folder):
     """The first look-up of the upstream's name never answers. The next client is served, and by workers the first one with it, whose
     upstream is the same."""
@@ -25,6 +26,7 @@ def look_up_that_hangs_holds_up_no_other(program, folder):
 
 
 @start
+@with_shim
 def look_ups_that_hang_hold_up_no_end(program, folder):
     """All look-ups of the upstream's name hang, and more clients wait than look-ups are made at once. The total comes nevertheless."""
     with Stopped(program, folder, upstream_host="shop.test", env=environment(TOXI_LOOK_UPS_THAT_HANG=1000)) as toxi:

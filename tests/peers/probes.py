@@ -8,7 +8,7 @@ import time
 
 from .registry import start
 from .served import serve_command
-from .shim import environment
+from .shim import environment, with_shim
 from .starts import proxy
 from .stops import Stopped, log_of
 from .waiting import LIMIT, check, check_in_time, wait_until
@@ -155,6 +155,7 @@ def a_wait_ends_by_its_time_while_a_connect_hangs(program, _folder):
 
 
 @start
+@with_shim
 def a_wait_ends_by_its_time_while_a_look_up_hangs(program, _folder):
     """The system's look-up of the name never answers."""
     check_not_ready(wait_command(program, "shop.test:1"), "shop.test:1", env=environment(TOXI_LOOK_UPS_THAT_HANG=1000))

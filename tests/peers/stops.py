@@ -459,14 +459,15 @@ def under_nohup_a_hangup_is_ignored(program, folder):
 
 
 @start
-def without_the_launcher_a_signal_kills(program, folder):
+def the_program_itself_ends_with_its_totals(program, folder):
+    """Without the launcher, by each of the signals that tell it to end."""
     proxy = {"name": "shop", "listen": "127.0.0.1:0", "upstream": "127.0.0.1:1"}
-    for told in (signal.SIGTERM, signal.SIGINT):
-        with started(serve_command(program, folder, [proxy]), stdout=subprocess.PIPE) as process:
+    for told in (signal.SIGTERM, signal.SIGINT, signal.SIGHUP):
+        with started(serve_command(program, folder, [proxy]), stdout=subprocess.PIPE, preexec_fn=heed) as process:
             process.stdout.readline()
             process.send_signal(told)
-            check(status_of(process) == -told, f"it ended with status {process.returncode}")
-            check(process.stdout.read() == b"", "it printed something")
+            check(status_of(process) == 0, f"it ended with status {process.returncode}")
+            check(process.stdout.read() == b"total shop 0 up 0 down 0\n", "it printed something else")
 
 
 @start
@@ -478,14 +479,14 @@ def symlinks_run_the_program(program, folder):
     links = [os.path.join(bin_folder, name) for name in ("launched", "again", "bare")]
     for link, to in zip(links, (launcher(program, folder), "launched", os.path.abspath(program))):
         os.symlink(to, link)
-    for link, status in zip(links, (0, 0, -signal.SIGTERM)):
+    for link in links:
         name = os.path.basename(link)
         environment = {**os.environ, "PATH": f"{bin_folder}:{os.environ['PATH']}"}
         command = [name, *serve_command(link, folder, [proxy])[1:]]
         with started(command, stdout=subprocess.PIPE, env=environment) as process:
             process.stdout.readline()
             process.terminate()
-            check(status_of(process) == status, f"{name} ended with status {process.returncode}")
+            check(status_of(process) == 0, f"{name} ended with status {process.returncode}")
 
 
 @start
@@ -534,9 +535,46 @@ def a_supervisor_starts_it_again(program, folder):
 
 @start
 def other_commands_end_at_once(program, folder):
-    """The launcher blocks the signals for `serve` alone."""
-    with started([launcher(program, folder), "dry", "latency"], stdin=subprocess.PIPE) as process:
-        wait_until(lambda: "env" not in open(f"/proc/{process.pid}/comm").read(), "the program")
-        time.sleep(0.2)
-        process.send_signal(signal.SIGINT)
-        check(status_of(process) == -signal.SIGINT, f"it ended with status {process.returncode}")
+    """The signals are blocked for `serve` alone. Each other command waits here for its input, for a reader or for an address; `plan` never waits."""
+    pipe = os.path.join(folder, "pipe")
+    os.mkfifo(pipe)
+    files = ["--config", pipe, "--script", pipe]
+    waiting = (
+        *([name, "latency"] for name in ("dry", "draw", "stages")),
+        *([name, pipe] for name in ("replay", "report")),
+        ["pick", *files, "--proxy", "shop", "--conn", "1", "--stream", "upstream", "--seed", "1"],
+        ["forecast", *files, "--proxy", "shop", "--links", "1", "--seed", "1"],
+        ["--explain", "check", *files],
+        ["migrate", "--script", pipe],
+        ["wait", "127.0.0.1:1", "--within", "600000"],
+        ["help", "faults"],
+        ["arguments"],
+    )
+    for words in waiting:
+        for told in (signal.SIGINT, signal.SIGTERM):
+            ends_at_once([program, *words], told)
+    ends_at_once([launcher(program, folder), "dry", "latency"], signal.SIGINT)
+
+
+def ends_at_once(command, told):
+    """A command that waits ends by a signal as programs do."""
+    unread, output = os.pipe()
+    with open(unread, "rb"), open(output, "wb") as full:
+        fcntl.fcntl(output, fcntl.F_SETPIPE_SZ, PAGE)
+        with started(command, stdin=subprocess.PIPE, stdout=full, preexec_fn=heed) as process:
+            wait_until(lambda: is_asleep(process), "the command to wait")
+            process.send_signal(told)
+            check(status_of(process) == -told, f"{command} ended with status {process.returncode}")
+
+
+def heed():
+    """Run before a program: it heeds the signals that a script's job by `&` or `nohup` ignores."""
+    for told in (signal.SIGINT, signal.SIGHUP):
+        signal.signal(told, signal.SIG_DFL)
+
+
+def is_asleep(process):
+    """Whether the program, and not the launcher, sleeps."""
+    with open(f"/proc/{process.pid}/stat") as file:
+        name, state = re.search(r"\((.*)\) (\w)", file.read()).groups()
+    return name == "toxi" and state == "S"

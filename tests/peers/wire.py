@@ -10,7 +10,7 @@ from .ends import read_all, read_count, reset, shut_writing
 from .probes import processor_time
 from .registry import case, start
 from .served import Engine
-from .shim import environment
+from .shim import environment, with_shim
 from .stops import ALWAYS, LINK, Stopped, log_of
 from .waiting import LIMIT, Failed, check, check_in_time
 
@@ -65,6 +65,7 @@ def urgent_data_hold_up_nothing(toxi):
 
 
 @start
+@with_shim
 def upstream_that_resets_was_reached(program, folder):
     """It accepts a connection and resets it before the proxy looks. No second address is tried for the same client, and the log tells
     a reset."""
@@ -90,6 +91,7 @@ def upstream_that_resets_was_reached(program, folder):
 
 
 @start
+@with_shim
 def reset_counts_from_the_connection(program, folder):
     """The upstream's connect takes longer than the reset's time, so both peers are reset as soon as it ends."""
     with Stopped(program, folder, RESET, env=environment(TOXI_CONNECT_PAUSE=PAUSE)) as toxi:
@@ -184,6 +186,7 @@ def read_quickly(client, count):
 
 
 @start
+@with_shim
 def reads_per_poll_do_not_grow(program, folder):
     """A stream of bulk has one turn between two polls of its worker, however long it lasts."""
     if not Engine.workers:

@@ -3,7 +3,6 @@ import asyncio
 import os
 import shlex
 import signal
-import subprocess
 import tempfile
 import unittest
 
@@ -89,22 +88,6 @@ class AsyncTests(unittest.IsolatedAsyncioTestCase):
         await asyncio.gather(*(toxi.stop() for toxi in many))
         self.assertTrue(all(b"x" * 10 in answer for answer in answers))
         self.assertEqual([total.links for toxi in many for total in toxi.totals()], [1] * len(many))
-
-    async def test_a_child_of_another_task_has_no_signals_blocked(self):
-        over = False
-
-        async def other():
-            while not over:
-                child = await asyncio.create_subprocess_exec("grep", "^SigBlk", "/proc/self/status", stdout=subprocess.PIPE)
-                printed, _ = await child.communicate()
-                self.assertEqual(int(printed.split()[1], 16) & (1 << signal.SIGTERM - 1), 0)
-
-        task = asyncio.create_task(other())
-        for _ in range(5):
-            async with AsyncToxi(NOWHERE):
-                pass
-        over = True
-        await task
 
     async def test_nothing_blocks_the_loop(self):
         released = 0

@@ -135,7 +135,7 @@ class EndingTests(unittest.TestCase):
                 asyncio.run(AsyncToxi(NOWHERE, program=program).start())
 
     def test_a_signal_while_it_starts_ends_it(self):
-        """The signals are blocked then. It is ended before this is told, since its files are removed next."""
+        """The signal is held back then. It is ended before this is told, since its files are removed next."""
         popen, started = subprocess.Popen, []
 
         def interrupted(*words, **options):
