@@ -1,9 +1,12 @@
 #!/usr/bin/env python3
-"""Prints the notices of what is linked into the program: the kit's libraries that it stands on, with their licence texts."""
+"""Prints the notices of what is linked into the program: the kit's libraries that it stands on, the C library and libgcc, with their licence texts."""
 import argparse
 import re
 from pathlib import Path
 from typing import Dict, Iterator, List, Tuple
+
+from debian_files import files_for
+from machines import MACHINES
 
 
 def used_by_us(crates: Path) -> List[str]:
@@ -40,9 +43,13 @@ def main() -> None:
     for name in names:
         for file, text in texts_of(name, arguments.kit):
             shared.setdefault(text, []).append(f"{name} ({file})")
+    for file in files_for(MACHINES[0]).licences:
+        shared.setdefault(file.read_text(encoding="utf-8").strip("\n"), []).append(f"the C library, glibc (Debian's {file.name})")
     bare = [name for name in names if not list(texts_of(name, arguments.kit))]
-    print("Notices of what is linked into the program toxi: libraries of the Rattle kit, most of them ports of Rust crates.")
-    print(f"\nThe kit has no licence text of its own for these: {', '.join(bare)}.")
+    print("Notices of what is linked into the program toxi: libraries of the Rattle kit, most of them ports of Rust crates, the C library, and libgcc.")
+    print(f"\nThe kit has no licence text of its own for these: {', '.join(bare)}. Whoever gives the kit says what holds of them.")
+    print("Of libgcc the program has what its compiler calls, under the GCC Runtime Library Exception; Debian's gcc-12-base has its texts.")
+    print("The C library is under the LGPL. The objects to link the program with another one lie beside it where it was released: toxi-VERSION-objects.tar.xz.")
     for text, owners in shared.items():
         print(f"\n{'=' * 80}\n{', '.join(owners)}\n{'=' * 80}\n\n{text}")
 

@@ -1,7 +1,9 @@
 # Sourced by tree, ../package, ../install and the tests, where `root` is the repository: what is packed beside the program.
 
 # The pages of the manual. The others are for those who change the program.
-PAGES="CI CLOCK CONTAINERS DRAW FAULTS FINDING FROM-TOXIPROXY MEANING PERFORMANCE PROFILE REPLAY REPORT SCRIPTS SWEEPING TESTING-WITH-TOXI TOXICS"
+PAGES="CI CLOCK CONTAINERS DRAW FAULTS FINDING FROM-TOXIPROXY INSTALL MEANING PERFORMANCE PROFILE REPLAY REPORT SCRIPTS SWEEPING TESTING-WITH-TOXI TOXICS"
+# The machines that there are programs for, as `uname -m` prints them; packaging/machines.py has the rest of each.
+MACHINES="x86_64 aarch64"
 # Folders that are packed as they are.
 FOLDERS="docs/pictures examples python/toxi"
 
@@ -21,6 +23,6 @@ files_of() {
 
 # sum_of_package: the sum of what is packed beside the program, and of what packs it.
 sum_of_package() {
-    files_of toxi package packaging LICENSE CHANGELOG.md SECURITY.md python $FOLDERS $(printf 'docs/%s.md ' $PAGES) |
+    files_of package packaging LICENSE CHANGELOG.md SECURITY.md python tests/python $FOLDERS $(printf 'docs/%s.md ' $PAGES) |
         LC_ALL=C sort -u | (cd "$root" && tr '\n' '\0' | xargs -0 sha256sum) | sha256sum | cut -c 1-64
 }

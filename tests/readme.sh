@@ -14,7 +14,7 @@ output() {
 # other_ports: puts ports that are free in place of those that README names.
 other_ports() {
     set -- $(python3 -c 'import socket
-sockets = [socket.create_server(("127.0.0.1", 0)) for _ in "ab"]
+sockets = [socket.create_server(("127.0.0.1", 0)) for _ in "abc"]
 print(*(each.getsockname()[1] for each in sockets))')
-    sed -i "s/18080/$1/g; s/\b8080/$2/g" README.md
+    sed -i "s/18080/$1/g; s/18081/$3/g; s/\b8080/$2/g" README.md
 }

@@ -1,17 +1,17 @@
 """The program `toxi`: where it is, and whether it is of the package's version."""
 import functools
+import importlib.metadata
 import os
 import re
 import shutil
 import subprocess
 from pathlib import Path
-from typing import Dict, Optional
+from typing import Dict, Iterator, Optional
 
 from . import __version__
 from .errors import ToxiError
 
-# The wheel has it there.
-OWN = Path(__file__).parent / "bin" / "toxi"
+PACKAGE = Path(__file__).parent
 # A clone's ./toxi may compile the program first. In seconds.
 VERSION_LIMIT = 300
 
@@ -21,14 +21,34 @@ def found_program(told: Optional[str] = None) -> str:
 
     Raises `ToxiError` where there is none, or it is of another version than this package.
     """
-    program = told or os.environ.get("TOXI") or (str(OWN) if OWN.exists() else shutil.which("toxi"))
+    program = told or os.environ.get("TOXI") or _own() or shutil.which("toxi")
     if program is None:
-        raise ToxiError(f"no program `toxi`: none was given by `program`, --toxi-program or the ini's toxi_program, $TOXI isn't set, {OWN} isn't there, and the PATH has none")
+        raise ToxiError(
+            "no program `toxi`: none was given by `program`, --toxi-program or the ini's toxi_program, $TOXI isn't set, "
+            f"{PACKAGE} was installed without one, and the PATH has none"
+        )
     path = startable(program)
     version = _version_of(path, os.stat(path).st_mtime_ns)
     if version != __version__:
         raise ToxiError(f"{program} is of version {version}, and the package toxi of {__version__}")
     return program
+
+
+def _own() -> Optional[str]:
+    """The program of the wheel that this package was installed from, if it was."""
+    return next((str(place) for place in _places() if place.is_file()), None)
+
+
+def _places() -> Iterator[Path]:
+    """Where pip may have put the wheel's program: among the commands of the environment, which the wheel's record tells, or with `--target` in a folder beside
+    the package."""
+    try:
+        installed = importlib.metadata.distribution("toxi")
+    except importlib.metadata.PackageNotFoundError:
+        return
+    if Path(str(installed.locate_file("toxi"))).resolve() == PACKAGE.resolve():
+        yield from (Path(str(file.locate())).resolve() for file in installed.files or () if file.name == "toxi" and file.parent.name == "bin")
+        yield PACKAGE.parent / "bin" / "toxi"
 
 
 def environment() -> Dict[str, str]:
