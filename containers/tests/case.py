@@ -10,10 +10,11 @@ LEAST = 80
 
 
 class ContainerCase(unittest.TestCase):
-    """Tests with an engine and with the program that the image holds, both of which main.py sets."""
+    """Tests with an engine, with the program that the image holds, and with the folder that the image was built of, which main.py sets."""
 
     engine = None
     program = None
+    context = None
 
     def check_answer(self, printed):
         """What the client of the files prints: an answer that was slow."""

@@ -42,6 +42,8 @@ class Engine:
     name = compose = None
     # Removes a container at once.
     remove = ()
+    # Has an image keep its health check.
+    building = ()
 
     def __init__(self, **environment):
         self.environment = {**os.environ, **environment}
@@ -65,6 +67,10 @@ class Engine:
         """The same of a command of the engine."""
         return self.run(self.name, *words)
 
+    def build(self, name, dockerfile, context, *options):
+        """Builds an image."""
+        self.do("build", "--quiet", *self.building, *options, "--file", dockerfile, "--tag", name, context)
+
     def lines(self, container):
         """What a container has printed so far."""
         return self.do("logs", container).splitlines()
@@ -79,6 +85,7 @@ class Engine:
 class Podman(Engine):
     name, compose = "podman", "podman-compose"
     remove = ("rm", "--force", "--time", "0")
+    building = ("--format", "docker")
 
     def __init__(self, folder):
         paths = {name: os.path.join(folder, name) for name in ("CONTAINERS_CONF", "CONTAINERS_STORAGE_CONF")}
@@ -86,6 +93,10 @@ class Podman(Engine):
             with open(path, "w", encoding="utf-8") as file:
                 file.write(text.format(folder=folder))
         super().__init__(**paths)
+
+    def is_healthy(self, container):
+        """Whether the health check of an image passes. Podman has systemd run it, so it is run here."""
+        return self.call(self.name, "healthcheck", "run", container)[0] == 0
 
 
 class Docker(Engine):
@@ -101,3 +112,7 @@ class Docker(Engine):
         with open(os.path.join(folder, "dockerd"), "w", encoding="utf-8") as said:
             self.daemon = subprocess.Popen(command, stdout=said, stderr=said)
         wait_until(lambda: self.call(self.name, "version")[0] == 0, "dockerd answers")
+
+    def is_healthy(self, container):
+        """Whether the health check of an image passes."""
+        return self.do("inspect", "--format", "{{.State.Health.Status}}", container) == "healthy\n"

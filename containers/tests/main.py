@@ -36,8 +36,9 @@ def run_tests(kind, program, debian, folder):
     if engine is None:
         return REFUSED
     print(f"{kind.name}:", flush=True)
-    images.build(engine, program, os.path.join(folder, "context"))
-    ContainerCase.engine, ContainerCase.program = engine, program
+    context = os.path.join(folder, "context")
+    images.build(engine, program, context)
+    ContainerCase.engine, ContainerCase.program, ContainerCase.context = engine, program, context
     ran = unittest.TextTestRunner().run(unittest.defaultTestLoader.loadTestsFromNames(TESTS[kind]))
     return 0 if ran.wasSuccessful() else 1
 

@@ -12,7 +12,8 @@ from engine import wait_until
 
 SIDECAR = os.path.join(FOLDER, "sidecar.yaml")
 # A container that joins a pod may take over that it is restarted.
-CLIENT = ["--restart", "no", "--volume", f"{os.path.join(FOLDER, 'files')}:/files:ro", "toxi-tests"]
+CLIENT = ["--restart", "no", "--volume", f"{os.path.join(FOLDER, 'files')}:/files:ro"]
+IMAGE = "python:3-slim"
 ASK = "exec python3 /files/client.py"
 LISTENING = "listening shop [::]:18080"
 UNITS = {"Mi": 2**20, "m": 1e-3, "": 1}
@@ -61,7 +62,7 @@ class Pod(ContainerCase):
             return False
 
     def answer(self, url, *options):
-        return self.engine.do("run", "--rm", *options, *CLIENT, "sh", "-c", f"{ASK} {url}")
+        return self.engine.do("run", "--rm", *options, *CLIENT, IMAGE, "sh", "-c", f"{ASK} {url}")
 
     def address(self):
         """The pod's network, and its address there."""
@@ -91,7 +92,7 @@ class Pod(ContainerCase):
         self.play()
         self.engine.do("stop", "shop-toxi")
         waiting = f"toxi wait localhost:18081 && {ASK} http://127.0.0.1:18080/"
-        client = self.engine.do("run", "--detach", "--pod", "shop", *CLIENT, "sh", "-c", waiting).strip()
+        client = self.engine.do("run", "--detach", "--pod", "shop", *CLIENT, "--volume", f"{self.program}:/usr/bin/toxi:ro", IMAGE, "sh", "-c", waiting).strip()
         time.sleep(1)
         self.engine.do("start", "shop-toxi")
         self.assertEqual(self.engine.status(client), 0)
