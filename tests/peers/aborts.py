@@ -6,7 +6,7 @@ import subprocess
 from . import logged
 from .registry import start
 from .served import Engine
-from .shim import environment
+from .shim import environment, with_shim
 from .stops import ALWAYS, Stopped, ended_links, log_of, says
 from .waiting import check
 
@@ -46,6 +46,7 @@ def a_stopped_link_tells_no_end(program, folder):
 
 
 @start
+@with_shim
 def a_link_without_a_thread_tells_no_end(program, folder):
     """A link has a thread, one for its second direction, and a reader for each direction. The third or fourth is refused."""
     if Engine.workers:
