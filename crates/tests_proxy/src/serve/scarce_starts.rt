@@ -21,7 +21,7 @@ const OUT_SIZE: usize = 1_024;
 const QUEUE_PAGES: usize = 3 * 16;
 
 /// More pages than a start needs.
-const PAGES: usize = 140;
+const PAGES: usize = 100;
 
 const CONFIG: &str = "[{\"name\":\"a\",\"listen\":\"127.0.0.1:0\",\"upstream\":\"127.0.0.1:1\"}]";
 
