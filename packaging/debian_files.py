@@ -86,6 +86,7 @@ def fetch(machine: Machine, folder: Path, scratch: Path) -> None:
         "APT::Architectures": machine.debian,
         "APT::Sandbox::User": "",
         "Acquire::Languages": "none",
+        "Acquire::Retries": 3,
         "Dir::State": scratch / "state",
         "Dir::State::status": scratch / "state" / "status",
         "Dir::Cache": scratch / "cache",
