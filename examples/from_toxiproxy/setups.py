@@ -86,7 +86,7 @@ class Setup:
         """The toxic of this name, where no command of others was run since it was added. Else that is noted."""
         if not self._has_proxy(proxy, place, call):
             return None
-        named = [toxic for toxic in self.proxies[proxy]["toxics"] if name_of(toxic) == name]
+        named: List[Entry] = [toxic for toxic in self.proxies[proxy]["toxics"] if name_of(toxic) == name]
         if not named:
             self.miss(place, f"`{call}` for the toxic `{name}`, which the proxy `{proxy}` doesn't have")
             return None

@@ -12,7 +12,7 @@ BARE = re.compile(r"[^\s$`\\'\"*?;&|<>()]*")
 PART = re.compile(r"\\.|'|\"|\$(?:\{(\w+)\}|(\w+))", re.S)
 
 
-def assigned(text: str) -> Optional[re.Match]:
+def assigned(text: str) -> "Optional[re.Match[str]]":
     """A statement that only sets a variable, by its name and what stands behind `=`. None for another one."""
     found = ASSIGNED.fullmatch(text.strip())
     return found if found and _is_one_word(found[2]) else None
@@ -56,7 +56,7 @@ class Variables:
             behind = found.end()
         return "".join(parts) + text[behind:]
 
-    def _part(self, found: re.Match, quote: str) -> str:
+    def _part(self, found: "re.Match[str]", quote: str) -> str:
         value = self._values.get(found[1] or found[2] or "")
         if value is None or quote == "'":
             return found[0]
