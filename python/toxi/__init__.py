@@ -25,6 +25,7 @@ from .served import Toxi
 from .sweep_rows import SweepRow
 from .sweep_table import Sweep
 from .sweeping import sweep_faults
+from .thousandths import thousandths
 from .toxics import Bandwidth, Latency, LimitData, ResetPeer, Slicer, SlowClose, Timeout, Toxic
 
 __all__ = [
@@ -65,4 +66,5 @@ __all__ = [
     "rerun_command",
     "script_text",
     "sweep_faults",
+    "thousandths",
 ]

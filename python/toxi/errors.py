@@ -36,7 +36,10 @@ class ToxiFault(ToxiError):
 
 
 class ToxiWarning(UserWarning):
-    """A rule or a toxic has no effect, or not the whole one. The text is the line of `toxi check`, with its place in the rules."""
+    """A rule or a toxic has no effect, or not the whole one, or a toxicity reads as percent.
+
+    Of what `toxi check` finds the text is its line, with its place in the rules.
+    """
 
 
 def error_of(said: Sequence[str], status: Optional[int], rules: Rules) -> ToxiError:

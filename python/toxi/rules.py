@@ -5,6 +5,7 @@ from dataclasses import dataclass
 from typing import Iterable, List, Optional, Tuple, Union
 
 from .reprs import repr_without_defaults
+from .thousandths import Thousandths
 from .toxics import Toxic, Toxicity
 
 
@@ -66,7 +67,12 @@ def _setting(table: Union[Rule, Toxic], key: str, value: object) -> str:
 
 
 def _toxicity(value: Toxicity) -> Toxicity:
-    """A float as the text of its thousandths: 0.1 + 0.2 is `0.3`. One that isn't thousandths stays as it is, and the program refuses it."""
+    """A float as the text of its thousandths: 0.1 + 0.2 is `0.3`. One that isn't thousandths stays as it is, and the program refuses it.
+
+    What `thousandths` made is such a text too: the number 1 would be told as one that seldom applies.
+    """
+    if isinstance(value, Thousandths):
+        return repr(value / 1000)
     if not isinstance(value, float):
         return value
     rounded = round(value, 3)

@@ -7,6 +7,7 @@ from dataclasses import dataclass, fields
 from typing import Any, ClassVar, Dict, Optional, Union
 
 from .reprs import repr_without_defaults
+from .thousandths import warn_of_percent
 
 Toxicity = Union[int, float, str]
 # Attributes that stand in a script only where they aren't 0.
@@ -22,7 +23,8 @@ class Toxic:
 
     `name` is `<type>_<stream>` if absent. `stream` is `upstream` or `downstream`. `toxicity` is the chance that a link
     meets the toxic: a float of 0.0 to 1.0 in thousandths such as `0.25`, the same as a text, or whole thousandths, 0 to 1000;
-    absent, every link meets it. The whole number 1 is refused by a ValueError, since it reads as both 1.0 and 0.001.
+    absent, every link meets it. The whole number 1 is refused by a ValueError, since it reads as both 1.0 and 0.001, and one of 2 to 100
+    is a `ToxiWarning`, since it reads as percent too: `thousandths(30)` says what is meant.
 
     Raises `TypeError` for a value without its name, and for a name that the toxic doesn't have.
     """
@@ -46,6 +48,8 @@ class Toxic:
     def __post_init__(self) -> None:
         if type(self.toxicity) is int and self.toxicity == 1:
             raise ValueError(TOXICITY_OF_ONE)
+        # The call that makes a toxic stands two levels above: its __init__ calls this.
+        warn_of_percent(self.toxicity, stacklevel=3)
 
     def __repr__(self) -> str:
         return repr_without_defaults(self)

@@ -2,7 +2,7 @@
 import unittest
 import warnings
 
-from toxi import Latency, Proxy, ResetPeer, Rule, Slicer, Timeout, Toxi, ToxiError, ToxiFault, ToxiWarning, script_text
+from toxi import Latency, Proxy, ResetPeer, Rule, Slicer, Timeout, Toxi, ToxiError, ToxiFault, ToxiWarning, script_text, thousandths
 
 # Nothing listens there: port 1 of this machine.
 NOWHERE = {"shop": "127.0.0.1:1"}
@@ -77,13 +77,50 @@ class WrittenTests(unittest.TestCase):
             self.assertEqual(caught.exception.line, "S5 OutOfRange 1 1")
 
     def test_toxicities(self):
-        written = ((0.001, '"0.001"'), (0.1 + 0.2, '"0.3"'), (0.0, '"0.0"'), (1.0, '"1.0"'), ("0.5", '"0.5"'), (0, "0"), (2, "2"), (300, "300"))
+        written = ((0.001, '"0.001"'), (0.1 + 0.2, '"0.3"'), (0.0, '"0.0"'), (1.0, '"1.0"'), ("0.5", '"0.5"'), (0, "0"), (101, "101"), (300, "300"))
         for toxicity, text in written:
             self.assertIn(f"toxicity = {text}\n", script_text([Rule("shop", [Latency(latency=1, toxicity=toxicity)])]))
         toxics = [Latency(latency=1, toxicity=toxicity, name=str(toxicity)) for toxicity, _ in written]
         with self.assertWarns(ToxiWarning), Toxi(NOWHERE, [Rule("shop", toxics)]) as toxi:
             picked = [toxic.attributes["toxicity"] for toxic in toxi.pick("shop", 1, "downstream")]
-        self.assertEqual(picked, [1, 300, 0, 1000, 500, 0, 2, 300])
+        self.assertEqual(picked, [1, 300, 0, 1000, 500, 0, 101, 300])
+
+    def test_a_toxicity_that_reads_as_percent_is_a_warning(self):
+        for toxicity, told in (
+            (2, "2 thousandths, 0.2 % of the links, and may be read as 2 %: write toxicity=thousandths(2) or toxicity=0.002 for the first, "
+             "toxicity=0.02 for the second"),
+            (30, "30 thousandths, 3 % of the links, and may be read as 30 %: write toxicity=thousandths(30) or toxicity=0.03 for the first, "
+             "toxicity=0.3 for the second"),
+            (100, "100 thousandths, 10 % of the links, and may be read as 100 %: write toxicity=thousandths(100) or toxicity=0.1 for the first, "
+             "toxicity=1.0 for the second"),
+        ):
+            with self.assertWarns(ToxiWarning) as caught:
+                kept = Latency(latency=1, toxicity=toxicity)
+            self.assertEqual(str(caught.warning), f"toxicity={toxicity} is {told}")
+            self.assertEqual(caught.filename, __file__)
+            self.assertIn(f"toxicity = {toxicity}\n", script_text([Rule("shop", [kept])]))
+
+    def test_thousandths_warn_of_nothing(self):
+        with warnings.catch_warnings():
+            warnings.simplefilter("error", ToxiWarning)
+            for toxicity in (0, 101, 300, 1000, 0.3, 1.0, "0.3", "1.0", None):
+                Latency(latency=1, toxicity=toxicity)
+            meant = [thousandths(number) for number in (0, 1, 2, 30, 100, 125, 1000)]
+            toxics = [Latency(latency=1, toxicity=number, name=f"meant_{number}") for number in meant]
+            text = script_text([Rule("shop", toxics)])
+            written = [line for line in text.splitlines() if line.startswith("toxicity")]
+            self.assertEqual(written, [f'toxicity = "{part}"' for part in ("0.0", "0.001", "0.002", "0.03", "0.1", "0.125", "1.0")])
+            self.assertEqual([toxic.name for toxic in toxics[:2]], ["meant_0", "meant_1"])
+            with Toxi(NOWHERE, [Rule("shop", toxics[1:])]) as toxi:
+                picked = [toxic.attributes["toxicity"] for toxic in toxi.pick("shop", 1, "downstream")]
+        self.assertEqual(picked, meant[1:])
+        self.assertEqual(repr(toxics[3]), "Latency(name='meant_30', toxicity=thousandths(30), latency=1)")
+        for wrong in (0.3, "0.3", True, None):
+            self.assertRaisesRegex(TypeError, " is no whole number of thousandths$", thousandths, wrong)
+        for refused in (1001, -1):
+            with self.assertRaises(ToxiFault) as caught:
+                Toxi(NOWHERE, [Rule("shop", [Latency(latency=1, toxicity=thousandths(refused))])]).start()
+            self.assertEqual(caught.exception.line, "S7 ToxicityNotThousandths 1 1")
 
     def test_toxicities_that_are_refused(self):
         with self.assertRaisesRegex(ValueError, "1.0, or leave it out, for every link, and toxicity=0.001 for one link in a thousand"):
