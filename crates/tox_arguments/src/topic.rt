@@ -6,6 +6,8 @@ use crate::help;
 pub enum HelpText {
     /// This text.
     One(&'static str),
+    /// The toxics with their attributes.
+    Toxics,
     /// The lines of all faults.
     Faults,
 }
@@ -48,7 +50,7 @@ impl Topic {
 
     pub fn text(self) -> HelpText {
         match self {
-            Topic::Toxics => HelpText::One(help::toxics()),
+            Topic::Toxics => HelpText::Toxics,
             Topic::Scripts => HelpText::One(help::SCRIPTS),
             Topic::Faults => HelpText::Faults,
         }

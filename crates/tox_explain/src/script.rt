@@ -7,7 +7,7 @@ use crate::quoted::Quoted;
 use crate::script_lines::line_of;
 use crate::script_subject::Subject;
 use crate::text_place::{add_line, add_line_at, add_not_utf8};
-use crate::toxic_attributes::{add_range, fits};
+use crate::toxic_attributes::{add_range, attribute_of};
 use crate::toxic_value::meant_value;
 use crate::unknown_name::UnknownName;
 use std::alloc::{AllocError, Global};
@@ -160,12 +160,15 @@ fn add_attribute(
     let Some(toxic) = subject.toxic() else {
         return Ok(Rest::Words);
     };
-    add_range(text, &toxic, subject.key)?;
+    let Some(attribute) = attribute_of(&toxic, subject.key) else {
+        return Ok(Rest::Words);
+    };
+    add_range(text, &attribute)?;
     let meant = meant_of(alloc, toxic.name(), subject)?;
     add_meant(
         text,
         subject,
-        meant.filter(|number| fits(&toxic, subject.key, *number)),
+        meant.filter(|number| attribute.limits.has(*number)),
     )?;
     Ok(Rest::Nothing)
 }

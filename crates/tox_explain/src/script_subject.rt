@@ -71,7 +71,7 @@ fn key_of<'a>(fault: &FaultLine<'_>, number: TableNumber, table: &'a Value) -> O
     match fault.code {
         "S2" => field_of(fault.last_word(), number, table),
         "S4" => Some(UnknownName::in_table(table)?.name()),
-        "S5" => bad_attribute(table),
+        "S5" => Some(bad_attribute(table)?.name),
         "S6" => Some("size_variation"),
         "S7" => Some(TOXICITY),
         "S8" => Some("name"),

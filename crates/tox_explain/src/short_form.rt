@@ -5,8 +5,8 @@ use crate::fault_line::FaultLine;
 use crate::inputs::Inputs;
 use crate::meant_form::meant_form;
 use crate::quoted::Quoted;
-use crate::toxic_attributes::{add_range, fits};
-use crate::unit::Unit;
+use crate::toxic_attributes::add_range;
+use crate::unit::KeyUnit;
 use crate::unknown_name::UnknownName;
 use std::alloc::{AllocError, Global};
 use tox_defs::Toxic;
@@ -38,8 +38,8 @@ pub(crate) fn explain_short(
         },
         "S5" => add_out_of_range(text, form),
         "S7" => {
-            let words = Unit::Thousandths.words();
-            write!(text, "  toxicity is in {words}\n")?;
+            let unit = KeyUnit::Thousandths.words();
+            write!(text, "  toxicity is in whole {unit}\n")?;
             Ok(Rest::Nothing)
         }
         _ => Ok(Rest::Words),
@@ -91,9 +91,9 @@ fn add_out_of_range(text: &mut String, form: &str) -> Result<Rest, AllocError> {
     let Some(toxic) = Toxic::of_name(name) else {
         return Ok(Rest::Words);
     };
-    for key in toxic.attributes() {
-        if !fits(&toxic, key, value_in(pairs, key)) {
-            add_range(text, &toxic, key)?;
+    for attribute in toxic.attributes() {
+        if !attribute.limits.has(value_in(pairs, attribute.name)) {
+            add_range(text, attribute)?;
             return Ok(Rest::Nothing);
         }
     }

@@ -1,6 +1,7 @@
 //! A type or an attribute that there isn't, and the nearest name.
 use crate::explanation::Rest;
 use crate::quoted::Quoted;
+use crate::toxic_attributes::attribute_names;
 use crate::unit::TOXICITY;
 use std::alloc::{AllocError, Global};
 use toml::Value;
@@ -55,7 +56,7 @@ impl<'a> UnknownName<'a> {
     pub(crate) fn nearest(&self, alloc: Global) -> Result<Option<&'static str>, AllocError> {
         match self {
             UnknownName::Type(name) => nearest(alloc, name, &type_names()),
-            UnknownName::Attribute(toxic, name) => nearest(alloc, name, toxic.attributes()),
+            UnknownName::Attribute(toxic, name) => nearest(alloc, name, &attribute_names(toxic)),
         }
     }
 
@@ -75,7 +76,9 @@ impl<'a> UnknownName<'a> {
         text.push_str("\n")?;
         match self {
             UnknownName::Type(_) => add_names(text, "the types are", &type_names())?,
-            UnknownName::Attribute(toxic, _) => add_names(text, "it has", toxic.attributes())?,
+            UnknownName::Attribute(toxic, _) => {
+                add_names(text, "it has", &attribute_names(toxic))?;
+            }
         }
         Ok(Rest::Nothing)
     }

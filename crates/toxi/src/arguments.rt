@@ -3,9 +3,10 @@ use std::alloc::{AllocError, Global};
 use std::io;
 use thiserror::Error;
 use tox_arguments::{
-    Argument, COMMANDS, CommandForm, FAULTS, HelpText, PROGRAM, Topic, VERSION, ValueKind,
+    Argument, COMMANDS, CommandForm, FAULTS, HelpText, PROGRAM, Topic, ToxicsHelp, VERSION,
+    ValueKind,
 };
-use tox_defs::Toxic;
+use tox_defs::{Attribute, Toxic};
 use tox_explain::TOXICITY;
 use tox_proxy::{JsonField, JsonItem, JsonValue, WriteFault, write_object};
 use tox_time::{Real, Stream};
@@ -107,26 +108,64 @@ fn values_of(alloc: Global, argument: &Argument) -> Result<Vec<JsonItem<'static>
     }
 }
 
-/// Writes the line of a type of toxics: its name, and the keys of its short form.
+/// Writes the line of a type of toxics, with the keys of its short form, and those of its attributes.
 fn write_toxic<R: Print + AllocGlobal>(rt: &R, toxic: &Toxic) -> Result<(), ArgumentsFault> {
     let keys = keys_of(rt.alloc(), toxic)?;
-    let fields = [JsonField::text("name", toxic.name()), array("keys", &keys)];
-    write(rt, "toxic", &fields)
+    let fields = [
+        JsonField::text("name", toxic.name()),
+        JsonField::text("words", toxic.words()),
+        array("keys", &keys),
+    ];
+    write(rt, "toxic", &fields)?;
+    for attribute in toxic.attributes() {
+        write_attribute(rt, toxic.name(), attribute)?;
+    }
+    Ok(())
 }
 
 /// The keys of a toxic's short form.
 fn keys_of(alloc: Global, toxic: &Toxic) -> Result<Vec<JsonItem<'static>>, AllocError> {
-    let mut keys = items(alloc, toxic.attributes())?;
+    let mut keys = Vec::new(alloc);
+    for attribute in toxic.attributes() {
+        keys.push(JsonItem::Text(attribute.name))?;
+    }
     keys.push(JsonItem::Text(TOXICITY))?;
     Ok(keys)
 }
 
+/// Writes the line of an attribute. Where a value has to be given, its default is 0.
+fn write_attribute<R: Print>(
+    rt: &R,
+    toxic: &str,
+    attribute: &Attribute,
+) -> Result<(), ArgumentsFault> {
+    let fields = [
+        JsonField::text("toxic", toxic),
+        JsonField::text("name", attribute.name),
+        JsonField::text("unit", attribute.unit.words()),
+        JsonField::text("placeholder", attribute.unit.placeholder()),
+        JsonField::number("least", attribute.limits.least),
+        JsonField::number("most", attribute.limits.most),
+        flag("required", attribute.default().is_none()),
+        JsonField::number("default", attribute.default().unwrap_or(0)),
+        JsonField::text("words", attribute.words),
+    ];
+    write(rt, "attribute", &fields)
+}
+
 /// Writes the line of a topic of help. The text of the faults is that of their own lines.
 fn write_topic<R: Print + AllocGlobal>(rt: &R, topic: Topic) -> Result<(), ArgumentsFault> {
-    let text = match topic.text() {
-        HelpText::One(text) => text,
-        HelpText::Faults => "",
-    };
+    match topic.text() {
+        HelpText::One(text) => write_text(rt, topic, text),
+        HelpText::Toxics => {
+            let text = format!(in rt.alloc(); "{}", ToxicsHelp)?;
+            write_text(rt, topic, text.as_str())
+        }
+        HelpText::Faults => write_text(rt, topic, ""),
+    }
+}
+
+fn write_text<R: Print>(rt: &R, topic: Topic, text: &str) -> Result<(), ArgumentsFault> {
     let fields = [
         JsonField::text("name", topic.name()),
         JsonField::text("about", topic.about()),

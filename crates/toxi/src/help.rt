@@ -1,7 +1,7 @@
 //! `toxi help`: the text of a topic, on standard output.
 use crate::piped_output::lacks_reader;
 use std::io;
-use tox_arguments::{FAULTS, HelpText};
+use tox_arguments::{FAULTS, HelpText, ToxicsHelp};
 use tox_proxy::WriteFault;
 
 /// Prints a text. A reader that leaves has read what it wanted.
@@ -9,6 +9,7 @@ use tox_proxy::WriteFault;
 pub fn help<R: Print>(rt: &R, text: HelpText) -> Result<(), WriteFault> {
     let printed = match text {
         HelpText::One(text) => println!(rt; "{text}"),
+        HelpText::Toxics => println!(rt; "{}", ToxicsHelp),
         HelpText::Faults => print_faults(rt),
     };
     match printed {
