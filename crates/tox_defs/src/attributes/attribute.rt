@@ -20,7 +20,7 @@ pub(crate) const UNTIL: Attribute = Attribute {
     name: "until",
     unit: Unit::Milliseconds,
     limits: UP_TO_HOUR,
-    words: "what comes at or past that time passes whole and in order; 0: there is none",
+    words: "stops at that time, and from then on all passes; 0: never",
 };
 
 /// From when a toxic works.
@@ -28,7 +28,7 @@ pub(crate) const FROM: Attribute = Attribute {
     name: "from",
     unit: Unit::Milliseconds,
     limits: UP_TO_HOUR,
-    words: "what comes before that time passes whole and in order; 0: there is none",
+    words: "begins at that time, and until then all passes; 0: at once",
 };
 
 impl Attribute {

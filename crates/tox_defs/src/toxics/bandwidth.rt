@@ -34,7 +34,7 @@ pub(crate) fn description(rate: u32, until: u32, from: u32) -> Description
                 name: "rate",
                 unit: Unit::Kilobytes,
                 limits: ONE_TO_MILLION,
-                words: "how many pass",
+                words: "how many pass each second",
             },
             UNTIL,
             FROM,

@@ -33,7 +33,7 @@ pub(crate) fn description(bytes: u64) -> Description
             name: "bytes",
             unit: Unit::Bytes,
             limits: UP_TO_MAX_BYTES,
-            words: "how many pass",
+            words: "how many pass before it closes",
         }],
         values: listed(&[bytes]),
         window: Window::ALWAYS,

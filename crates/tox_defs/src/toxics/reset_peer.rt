@@ -41,7 +41,7 @@ pub(crate) fn description(timeout: u32, after: u64) -> Description
                 name: "after",
                 unit: Unit::Bytes,
                 limits: UP_TO_MAX_BYTES,
-                words: "resets behind so many bytes, and not before; 0: at that time alone",
+                words: "resets behind so many bytes, and not before that time; 0: at that time",
             },
         ],
         values: listed(&[u64::from(timeout), after]),

@@ -4,7 +4,7 @@ ghost use Rattle.tox_defs.specs.DescriptionInside.{description_view};
 ghost use Rattle.tox_defs.specs.Toxic.{checked};
 ghost use Rattle.tox_defs.specs.toxics.Timeout.{timeout_description, timeout_ending, timeout_of, timeout_op, timeout_start};
 
-use crate::attributes::attribute::Attribute;
+use crate::attributes::attribute::{Attribute, FROM};
 use crate::attributes::description::Description;
 use crate::attributes::effect::Effect;
 use crate::attributes::limits::{UP_TO_HOUR, UP_TO_MAX_BYTES};
@@ -30,17 +30,12 @@ pub(crate) fn description(timeout: u32, from: u32, after: u64) -> Description
                 limits: UP_TO_HOUR,
                 words: "when the link closes; 0: never",
             },
-            Attribute {
-                name: "from",
-                unit: Unit::Milliseconds,
-                limits: UP_TO_HOUR,
-                words: "begins at that time; until then all passes",
-            },
+            FROM,
             Attribute {
                 name: "after",
                 unit: Unit::Bytes,
                 limits: UP_TO_MAX_BYTES,
-                words: "begins behind so many bytes, if that is sooner; until then all passes",
+                words: "begins behind so many bytes, if that is sooner; 0: not for their sake",
             },
         ],
         values: listed(&[u64::from(timeout), u64::from(from), after]),
