@@ -1,58 +1,34 @@
 """Runs of a client behind proxies of one `serve`, each run with a proxy of its own for each upstream."""
+import json
 import tempfile
 import threading
-import time
 from collections import deque
 from concurrent.futures import ThreadPoolExecutor
 from dataclasses import dataclass, field, replace
+from functools import partial
 from pathlib import Path
-from typing import Any, Callable, Container, Deque, Dict, List, Mapping, Optional, Sequence, Set, Union
+from typing import Any, Callable, Deque, Dict, List, Mapping, Optional, Sequence, Set, Union
 
-from ._search.cases import Case
+from ._search.attempts import FunctionClient
+from ._search.cases import Case, batch_script
 from ._search.client_run import ClientRun
+from ._search.holding import held_seconds
+from ._search.serving import BatchToxi, remove_all
 from .conversations import StreamBytes, streams_of
 from .fault_points import FaultPoint
 from .lines import Address, Link
 from .outcomes import Addresses, Attempt, Client, Outcome, Startable, run_client
 from .ports import refusing
-from .runs import Run
-from .served import Toxi
 
 # A populate file has at most so many proxies.
 MAX_PROXIES = 64
-# A link of a client that has returned may live on. So long it is waited for, and for the end of its log, in seconds.
-SETTLE = 1.0
-LOG_DELAY = 0.1
-
-
-class Unchecked(Toxi):
-    """Drawn rules often have no effect, which needs no warning. `serve` refuses what `check` would refuse."""
-
-    def _checked(self, run: Run) -> Run:
-        return run
-
-    def kill(self) -> None:
-        """As `stop`, without the lines of links that still live, and without the 50 ms that `serve` takes to look for SIGTERM."""
-        self._running().kill()
-        self.stop()
-
-    def settled_links(self, proxies: Container[str]) -> List[Link]:
-        """The links of some proxies, once there is one, each that has logs has its line, and its log is whole, or after `SETTLE` seconds."""
-        end = time.monotonic() + SETTLE
-        while time.monotonic() < end:
-            links = {(link.proxy, link.number) for link in self.links() if link.proxy in proxies}
-            logged = {log.name.rpartition("-")[0] for log in self.logs() if log.name.rsplit("-", 2)[0] in proxies}
-            if links and len(links) >= len(logged):
-                time.sleep(LOG_DELAY)
-                break
-            time.sleep(LOG_DELAY / 10)
-        return [link for link in self.links() if link.proxy in proxies]
 
 
 @dataclass(frozen=True)
 class ClientSetup:
     """A client and what its runs have in common: the upstreams by the names of their proxies, its limit `within` in seconds, what runs before each run,
-    how many run at once, and the options of each `Toxi`. `streams` are those of its recorded conversation."""
+    how many run at once, and the options of each `Toxi`. With `keeps_logs` each run has logs, and with
+    `shares_threads` several runs of a function have one thread."""
 
     upstreams: Mapping[str, str]
     client: Union[Client, Startable]
@@ -60,7 +36,8 @@ class ClientSetup:
     before: Optional[Callable[[], object]]
     jobs: int
     options: Mapping[str, Any]
-    streams: Sequence[StreamBytes] = ()
+    keeps_logs: bool = False
+    shares_threads: bool = False
 
     @property
     def batch_size(self) -> int:
@@ -116,35 +93,46 @@ class Batch:
         self._setup = setup
         self._ended, self._wanted = ended, wanted
         self._reads_logs = reads_logs
+        self._keeps_logs = reads_logs or setup.keeps_logs or any(case.delays for case in cases)
+        self._client = setup.client if isinstance(setup.client, Startable) else FunctionClient(setup.client, setup.shares_threads)
         self._waiting: Deque[int] = deque(range(len(cases)))
         self._running: Set[int] = set()
         self._attempts: Dict[int, Attempt] = {}
         self._changed = threading.Condition()
         self._places = {name: place for place, name in enumerate(setup.upstreams)}
         self._refused: Dict[str, Address] = {}
-        self._toxi: Unchecked
+        self._listening: Mapping[str, Address] = {}
+        self._is_over = False
+        self._toxi: BatchToxi
 
     def run(self) -> None:
         """Runs them. What raises ends those that run, and the outcomes so far are kept."""
         __tracebackhide__ = True
-        every = [(name, number) for number in range(len(self.runs)) for name in self._places]
-        upstreams = {self._proxy(name, number): self._setup.upstreams[name] for name, number in every}
-        rules = [rule for number, run in enumerate(self.runs) for rule in run.case.renamed({name: self._proxy(name, number) for name in self._places})]
+        upstreams = {self._proxy(name, number): upstream for number in range(len(self.runs)) for name, upstream in self._setup.upstreams.items()}
+        script = batch_script([(run.case, {name: self._proxy(name, number) for name in self._places}) for number, run in enumerate(self.runs)])
         refused = sorted({name for run in self.runs for name in run.case.refused})
         with tempfile.TemporaryDirectory(prefix="toxi-runs-") as folder, refusing(refused) as self._refused:
-            self._toxi = Unchecked(upstreams, rules, directory=folder, log=Path(folder, "logs"), **self._setup.options)
+            logs = Path(folder, "logs") if self._keeps_logs else None
+            self._toxi = BatchToxi(_populated(upstreams), script, directory=folder, log=logs, **self._setup.options)
             try:
                 with self._toxi:
+                    self._listening = self._toxi.listening()
                     self._run_all()
             finally:
+                if isinstance(self._client, FunctionClient):
+                    self._client.close()
                 self._note_links()
+                remove_all(self._toxi.logs())
 
     def _proxy(self, name: str, number: int) -> str:
         return f"{self._places[name]}-{number}"
 
     def _run_all(self) -> None:
-        """This thread is one of those that run clients, so with one job there is no other."""
+        """This thread is one of those that run clients."""
         __tracebackhide__ = True
+        if self._setup.jobs == 1:
+            self._work()
+            return
         with ThreadPoolExecutor(self._setup.jobs) as executor:
             others = [executor.submit(self._work) for _ in range(self._setup.jobs - 1)]
             try:
@@ -173,33 +161,39 @@ class Batch:
 
     def _run_one(self, number: int) -> None:
         __tracebackhide__ = True
-        client, run = self._setup.client, self.runs[number]
+        run = self.runs[number]
         if not self._wanted(run.case):
             run.dropped = True
             return
-        if isinstance(client, Startable):
-            client = _Noted(client, lambda attempt: self._attempts.update({number: attempt}))
-        addresses = {name: self._toxi.address(self._proxy(name, number)) for name in self._places}
-        addresses.update({name: self._refused[name] for name in run.case.refused})
+        # Another thread ends an attempt only where there is one.
+        client = self._client if self._setup.jobs == 1 else _Noted(self._client, partial(self._attempts.__setitem__, number))
+        addresses = {name: self._listening[f"{place}-{number}"] for name, place in self._places.items()}
+        if run.case.refused:
+            addresses.update({name: self._refused[name] for name in run.case.refused})
         if self._setup.before is not None:
             self._setup.before()
-        limit = self._setup.within + run.case.allowance(self._setup.streams, self._setup.within)
-        outcome = run_client(client, addresses, limit, lambda: self._end_links(number))
+        held = partial(self._held, number) if run.case.delays else None
+        outcome = run_client(client, addresses, self._setup.within, partial(self._end_links, number), held)
         with self._changed:
             # Else it was ended from outside, which says nothing of the client.
             counts = outcome.hung or number in self._running
         if counts:
-            run.outcome = replace(outcome, run=ClientRun(run.case.rules, outcome.seconds, lambda: self._streams_of(number)))
+            run.outcome = replace(outcome, run=ClientRun(run.case.rules, outcome.seconds, partial(self._streams_of, number)))
             if not self._ended(run):
                 with self._changed:
                     self._waiting.clear()
 
+    def _held(self, number: int, now: float) -> float:
+        """How long the links of a run have held something back, in seconds, at a time of the run."""
+        return held_seconds(self._toxi.logs_of({self._proxy(name, number) for name in self._places}), now)
+
     def _streams_of(self, number: int) -> List[StreamBytes]:
-        """The streams of a run that has returned, from the logs so far."""
+        """The streams of a run that has returned, from the logs so far, or from all of them once the batch is over."""
+        if self._is_over:
+            return self.runs[number].streams
         proxies = {self._proxy(name, number): name for name in self._places}
-        links = [link for link in self._toxi.settled_links(proxies) if link.proxy in proxies]
-        logs = [log for log in self._toxi.logs() if log.name.rsplit("-", 2)[0] in proxies]
-        return [stream.of_proxy(proxies[stream.proxy]) for stream in streams_of(links, logs)]
+        streams = streams_of(self._toxi.settled_links(proxies), self._toxi.logs_of(proxies))
+        return [stream.of_proxy(proxies[stream.proxy]) for stream in streams]
 
     def _end_links(self, number: int) -> None:
         """For a run that hangs: its links are broken once the others have ended or hang too, since they are those of one `serve`."""
@@ -224,12 +218,18 @@ class Batch:
     def _note_links(self) -> None:
         """Gives each run its links. A link that lived has its line now, since `serve` has ended."""
         names = list(self._setup.upstreams)
+        self._is_over = True
         if not self._toxi.runs:
             return
         links = self._toxi.links()
         for link in links:
             place, _, number = link.proxy.partition("-")
-            self.runs[int(number)].links.append(replace(link, proxy=names[int(place)]))
+            self.runs[int(number)].links.append(Link(names[int(place)], link.number, link.up, link.up_end, link.down, link.down_end))
         for stream in streams_of(links, self._toxi.logs()) if self._reads_logs else ():
             place, _, number = stream.proxy.partition("-")
             self.runs[int(number)].streams.append(stream.of_proxy(names[int(place)]))
+
+
+def _populated(upstreams: Mapping[str, str]) -> str:
+    """The populate file of proxies with names of ours, each on a port that the system chooses."""
+    return json.dumps([{"name": name, "upstream": upstream, "listen": "127.0.0.1:0", "enabled": True} for name, upstream in upstreams.items()])

@@ -35,14 +35,13 @@ MOST_TRIALS = 10
 
 @dataclass(frozen=True)
 class FoundFolder:
-    """Writes what is left of a failure into a folder, or into a new one. `allowance` is what its delays add to the client's limit, in seconds."""
+    """Writes what is left of a failure into a folder, or into a new one."""
 
     folder: Optional[Path]
     smallest: Smallest
     source: ClientSource
     trials: Trials
     judge: Judge
-    allowance: float
 
     def found(self, runs: int, seconds: float) -> Found:
         """Runs it once more for its logs, and writes the files. Returns what stands in them."""
@@ -107,7 +106,7 @@ class FoundFolder:
         quoted = {name: shlex.quote(os.path.abspath(path)) for name, path in paths}
         files = {
             "seed": f"{found.seed}\n",
-            "test_found.py": self.source.test_text(about, round(self.trials.within + self.allowance, 3), times),
+            "test_found.py": self.source.test_text(about, self.trials.within, times),
             "again.sh": AGAIN.format(seed=found.seed, python=shlex.quote(sys.executable), **quoted),
         }
         for name, text in files.items():

@@ -1,24 +1,16 @@
 """What a run of a client comes to: an answer, an exception or a hang, and whether that is right."""
-import asyncio
 import inspect
-import os
-import sys
-import threading
 import time
-from abc import ABC, abstractmethod
-from concurrent.futures import Future, wait
 from dataclasses import dataclass
 from enum import Enum
-from types import FrameType, TracebackType
-from typing import Any, Callable, Coroutine, List, Mapping, Optional, Sequence, Tuple, Type, Union
+from functools import cached_property
+from typing import Any, Callable, Optional, Sequence, Tuple, Type, Union
 
+from ._search.attempts import Addresses, Attempt, Client, FunctionClient, Place, Startable, run_here
 from ._search.client_run import ClientRun
-from .checks import PACKAGE
+from ._search.holding import LOG_LAG
 from .errors import ToxiError
-from .lines import Address
 
-Addresses = Mapping[str, Address]
-Client = Callable[[Addresses], Any]
 Check = Callable[..., Any]
 Eventually = Callable[[ClientRun], Any]
 Allowed = Union[Type[BaseException], Tuple[Type[BaseException], ...]]
@@ -26,13 +18,13 @@ Allowed = Union[Type[BaseException], Tuple[Type[BaseException], ...]]
 WITHIN = 10.0
 # How long a client that hangs may take to return once its links are broken, in seconds.
 GRACE = 2.0
-# Frames of these folders stand above the client's own in a traceback.
-ABOVE = (PACKAGE, os.path.dirname(asyncio.__file__) + os.sep)
 # How long `eventually` may take to become true, and how often it is asked, in seconds.
 SETTLED_WITHIN = 2.0
 ASKED_EACH = 0.05
-# A file, a line of it, and the name of the function there.
-Place = Tuple[str, int, str]
+# How long links have held something back, in seconds, at a time of the run in seconds.
+Held = Callable[[float], float]
+# What is held back counts for at most so many times the limit.
+MAX_HELD = 3.0
 
 
 @dataclass(frozen=True)
@@ -98,6 +90,15 @@ class Judge:
     settle: float = SETTLED_WITHIN
     right: Any = None
 
+    @cached_property
+    def _check_needs_run(self) -> bool:
+        return needs_run(self.check)
+
+    @property
+    def reads_runs(self) -> bool:
+        """Whether it looks at the links of runs, for which logs are needed."""
+        return self._check_needs_run or self.eventually is not None
+
     def verdict(self, outcome: Outcome) -> Verdict:
         """The verdict of a run. An exception of `check` other than AssertionError is raised."""
         __tracebackhide__ = True
@@ -112,7 +113,7 @@ class Judge:
         """The verdict of an answer."""
         __tracebackhide__ = True
         try:
-            return RIGHT if (self.check(answer, _read(run)) if needs_run(self.check) else self.check(answer)) else WRONG
+            return RIGHT if (self.check(answer, _read(run)) if self._check_needs_run else self.check(answer)) else WRONG
         except AssertionError:
             return WRONG
 
@@ -198,118 +199,63 @@ class Equals:
         return bool(answer == self.expected)
 
 
-class Attempt(ABC):
-    """A client that runs. `future` gets what it returns or raises."""
-
-    def __init__(self) -> None:
-        self.future: "Future[Any]" = Future()
-
-    @abstractmethod
-    def end(self) -> None:
-        """Ends it, as far as that can be done from outside. Called at most once, and not after it has returned."""
-
-    def frames(self) -> Tuple[Place, ...]:
-        """Where it is now, the innermost last. Empty where that can't be seen from here."""
-        return ()
-
-
-class Startable(ABC):
-    """A client that is no function: it starts its attempts itself, several at once too."""
-
-    @abstractmethod
-    def start(self, addresses: Addresses) -> Attempt:
-        """Starts one with the addresses of its proxies."""
-
-
-class _Call(Attempt):
-    """A function in a thread, or a coroutine function in a loop of its own there."""
-
-    def __init__(self, client: Client, addresses: Addresses) -> None:
-        super().__init__()
-        self._cancel: Callable[[], object] = lambda: None
-        self._coroutine: Optional[Coroutine[Any, Any, Any]] = None
-        # A daemon: a client that never returns mustn't keep the interpreter.
-        self._thread = threading.Thread(target=self._run, args=(client, addresses), name="toxi client", daemon=True)
-        self._thread.start()
-
-    def _run(self, client: Client, addresses: Addresses) -> None:
-        try:
-            answer = run_here(client, addresses, self._awaited)
-        except BaseException as error:
-            self.future.set_exception(error.with_traceback(_of_client(error.__traceback__)))
-        else:
-            self.future.set_result(answer)
-
-    async def _awaited(self, coroutine: Coroutine[Any, Any, Any]) -> Any:
-        loop, task = asyncio.get_running_loop(), asyncio.current_task()
-        assert task is not None
-        cancel, self._coroutine = task.cancel, coroutine
-        self._cancel = lambda: loop.call_soon_threadsafe(cancel)
-        return await coroutine
-
-    def frames(self) -> Tuple[Place, ...]:
-        """Those of its thread, or of the coroutines that wait for each other."""
-        found: List[Place] = []
-        waiting: Any = self._coroutine
-        if waiting is None:
-            frame: Optional[FrameType] = sys._current_frames().get(self._thread.ident or 0)
-            while frame is not None:
-                found.insert(0, _place(frame))
-                frame = frame.f_back
-        while getattr(waiting, "cr_frame", None) is not None:
-            found.append(_place(waiting.cr_frame))
-            waiting = waiting.cr_await
-        return tuple(found)
-
-    def end(self) -> None:
-        """Cancels a coroutine. A thread can't be ended: its links are broken."""
-        try:
-            self._cancel()
-        except RuntimeError:
-            # The loop has just been closed.
-            pass
-
-
-async def _simply_awaited(coroutine: Coroutine[Any, Any, Any]) -> Any:
-    return await coroutine
-
-
-def run_here(
-    client: Client, addresses: Addresses, awaited: Callable[[Coroutine[Any, Any, Any]], Coroutine[Any, Any, Any]] = _simply_awaited
-) -> Any:
-    """The answer of a function, or of a coroutine function in a loop of its own."""
-    answer = client(addresses)
-    return asyncio.run(awaited(answer)) if inspect.iscoroutine(answer) else answer
-
-
-def _place(frame: FrameType) -> Place:
-    return frame.f_code.co_filename, frame.f_lineno, frame.f_code.co_name
-
-
-def _of_client(trace: Optional[TracebackType]) -> Optional[TracebackType]:
-    """A traceback from the client's first frame on."""
-    while trace is not None and trace.tb_frame.f_code.co_filename.startswith(ABOVE):
-        trace = trace.tb_next
-    return trace
-
-
-def run_client(client: Union[Client, Startable], addresses: Addresses, within: float, end_links: Callable[[], object]) -> Outcome:
+def run_client(
+    client: Union[Client, Startable], addresses: Addresses, within: float, end_links: Callable[[], object], held: Optional[Held] = None
+) -> Outcome:
     """Runs a client for at most `within` seconds. Past them `end_links` is called, and it has `GRACE` seconds more to return.
 
-    A client is a function of the addresses by the names of their proxies, or a coroutine function, or `Startable`.
+    A client is a function of the addresses by the names of their proxies, or a coroutine function, or `Startable`. Where its links may hold something back,
+    `held` tells how long they have, in seconds, from the run's time: so much longer it may take, and `LOG_LAG` more.
     """
     begun = time.monotonic()
-    attempt = client.start(addresses) if isinstance(client, Startable) else _Call(client, addresses)
+    attempt = (client if isinstance(client, Startable) else FunctionClient(client)).start(addresses)
     try:
-        hung = not wait([attempt.future], within).done
+        hung = not (attempt.wait(within) or (held is not None and _ends_late(attempt, begun, within, held)))
         seconds = time.monotonic() - begun
         if hung:
             frames = attempt.frames()
             attempt.end()
             end_links()
-            return Outcome(hung=True, returned=bool(wait([attempt.future], GRACE).done), seconds=seconds, frames=frames)
+            return Outcome(hung=True, returned=attempt.wait(GRACE), seconds=seconds, frames=frames)
     except BaseException:
         attempt.end()
         raise
-    error = attempt.future.exception()
-    return Outcome(error=error, seconds=seconds) if error is not None else Outcome(attempt.future.result(), seconds=seconds)
+    return Outcome(attempt.answer, attempt.error, seconds=seconds)
+
+
+def _ends_late(attempt: Attempt, begun: float, within: float, held: Held) -> bool:
+    """Whether a client that has used its time returns in what its links have held back."""
+    longer = within + LOG_LAG
+    while not attempt.wait(begun + longer - time.monotonic()):
+        now = time.monotonic() - begun
+        longer = within + LOG_LAG + min(held(now), MAX_HELD * within)
+        if longer <= now:
+            return False
+    return True
+
+
+__all__ = [
+    "Addresses",
+    "Allowed",
+    "Attempt",
+    "Check",
+    "Client",
+    "Equals",
+    "Eventually",
+    "GRACE",
+    "HANG",
+    "Judge",
+    "Kind",
+    "Outcome",
+    "Place",
+    "RIGHT",
+    "SETTLED_WITHIN",
+    "Startable",
+    "Verdict",
+    "WITHIN",
+    "WRONG",
+    "judge_of",
+    "needs_run",
+    "run_client",
+    "run_here",
+]

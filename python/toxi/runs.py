@@ -91,11 +91,15 @@ class Run:
 
     def listening(self) -> Dict[str, Address]:
         """Where the proxies listen, by their printed names."""
-        return dict(found for found in map(parse, self.lines) if isinstance(found, tuple))
+        return dict(found for found in map(parse, self._lines_of("listening ")) if isinstance(found, tuple))
 
     def parsed(self, kind: Type[Line]) -> List[Line]:
         """The lines of a kind so far."""
-        return [found for found in map(parse, self.lines) if isinstance(found, kind)]
+        return [found for found in map(parse, self._lines_of(f"{kind.__name__.lower()} ")) if isinstance(found, kind)]
+
+    def _lines_of(self, word: str) -> List[str]:
+        """The lines so far that begin with a word."""
+        return [line for line in self.lines if line.startswith(word)]
 
     def logs(self, since: Position = Position()) -> List[Path]:
         """The logs so far, but for those of links that had ended at a position of this run."""

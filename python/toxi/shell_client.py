@@ -10,7 +10,6 @@ import subprocess
 import sys
 import tempfile
 import threading
-from concurrent.futures import wait
 from dataclasses import dataclass
 from pathlib import Path
 from typing import IO, Any, Callable, Dict, FrozenSet, Iterable, List, Mapping, Optional, Sequence, Set, Union
@@ -110,13 +109,13 @@ class _CommandAttempt(Attempt):
         found = Status(status if status >= 0 else SIGNALLED - status)
         with self._said as said:
             found.said = _last_line(said) if found else ""
-        self.future.set_result(found)
+        self.settle(found)
 
     def end(self) -> None:
         """Ends the processes of its session by SIGTERM, and by SIGKILL once it has ended, or if that takes too long."""
         self._is_ended = True
         self._signal(signal.SIGTERM)
-        if not wait([self.future], TERM_LIMIT).done:
+        if not self.wait(TERM_LIMIT):
             self._signal(signal.SIGKILL)
 
     def _signal(self, number: int) -> None:
@@ -158,6 +157,11 @@ class StatusJudge(Judge):
 
     allowed_statuses: FrozenSet[int] = frozenset()
     looks: Optional[Callable[[ClientRun], bool]] = None
+
+    @property
+    def reads_runs(self) -> bool:
+        """Whether `looks` is given, which looks at the links of runs."""
+        return self.looks is not None
 
     def of_answer(self, answer: int, run: Optional[ClientRun] = None) -> Verdict:
         """The verdict of a status: `right`, `status <n>`, or `wrong answer` where `looks` refuses the run."""

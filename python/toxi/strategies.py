@@ -166,7 +166,8 @@ def _common_or_seldom(common: "SearchStrategy[Any]", seldom: "SearchStrategy[Any
     return seldom if number == 4 else common
 
 
-def _toxics(stream: Optional[str], kinds: Optional[Iterable[str]], bytes: int, delays: Delays) -> "SearchStrategy[Toxic]":
+def require_known(stream: Optional[str], kinds: Optional[Iterable[str]]) -> List[str]:
+    """The kinds, or all of them. Raises `ValueError` for an unknown stream or kind, and for no kind."""
     if stream not in (None, *STREAMS):
         raise ValueError(f"{stream!r} is no stream; there are {', '.join(STREAMS)}")
     chosen = list(DRAWS if kinds is None else kinds)
@@ -175,6 +176,11 @@ def _toxics(stream: Optional[str], kinds: Optional[Iterable[str]], bytes: int, d
     for kind in chosen:
         if kind not in DRAWS:
             raise ValueError(f"{kind!r} is no kind; there are {', '.join(DRAWS)}")
+    return chosen
+
+
+def _toxics(stream: Optional[str], kinds: Optional[Iterable[str]], bytes: int, delays: Delays) -> "SearchStrategy[Toxic]":
+    chosen = require_known(stream, kinds)
     # Answers more often than requests, and first, since the first is shrunk to.
     streams = st.sampled_from(("downstream", "downstream", "upstream")) if stream is None else st.just(stream)
     toxicities = _usually(st.none(), st.integers(1, 999).map(_thousandths))

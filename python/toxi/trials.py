@@ -6,8 +6,9 @@ from pathlib import Path
 from typing import Callable, FrozenSet, Iterable, List, Mapping, Optional, Union
 
 from ._search.client_run import ClientRun
+from ._search.holding import held_seconds
+from ._search.serving import Unchecked
 from .base import StrPath
-from .batches import Unchecked
 from .conversations import streams_of
 from .lines import Link
 from .outcomes import Client, Outcome, Startable, run_client
@@ -46,7 +47,7 @@ class Trial:
 
 @dataclass(frozen=True)
 class Trials:
-    """Runs a client as often as is asked. `before` is called before each run; `within` is the client's limit in seconds."""
+    """Runs a client as often as is asked. `before` is called before each run; `within` is the client's limit in seconds, beside what its links hold back."""
 
     upstreams: Mapping[str, str]
     client: Union[Client, Startable]
@@ -67,7 +68,7 @@ class Trials:
             served = self._served(rules, refused, Path(directory.name))
             with served, refusing(refused) as refusals:
                 addresses = {**{name: served.address(name) for name in self.upstreams if name not in refused}, **refusals}
-                outcome = run_client(self.client, addresses, self.within, served.stop)
+                outcome = run_client(self.client, addresses, self.within, served.stop, lambda now: held_seconds(served.logs(), now))
         except BaseException:
             directory.cleanup()
             raise

@@ -1,19 +1,18 @@
 """`Case`: a script that a client is run under, with the proxies whose connects are refused."""
 from dataclasses import dataclass, replace
 from functools import cached_property
-from typing import FrozenSet, List, Mapping, Optional, Sequence, Tuple
+from typing import FrozenSet, Iterable, List, Mapping, Optional, Sequence, Tuple
 
-from ..conversations import StreamBytes
 from ..fault_points import FaultPoint
-from ..rules import Rule, script_text
+from ..rules import Rule, script_text, toml_value
 from ..smallness import size_of
-from ..toxics import Bandwidth, Latency, ResetPeer, Slicer, SlowClose, Timeout, Toxic
+from ..toxics import Latency, LimitData, ResetPeer, Timeout, Toxic
 from .words import REFUSED, WORD_OF_TYPE
 
-# A piece that a delayed stream may have beside the recorded ones: a client that tries again hears more.
-SPARE_PIECES = 2
-# A delay that is shown counts for at most so many times the limit.
-MAX_ALLOWANCE = 3.0
+# The first line of a script.
+HEAD = script_text(())
+# The toxics that end a stream.
+ENDING = (LimitData, ResetPeer, Timeout)
 # A fault in words: its word, its stream, and the number of its connection, or 0 for all.
 Place = Tuple[str, str, int]
 
@@ -46,7 +45,7 @@ class Case:
         """What is less for a smaller fault. A refused proxy counts for more than a rule."""
         return (len(self.refused), *size_of(self.rules))
 
-    @property
+    @cached_property
     def places(self) -> List[Place]:
         """The faults in words: those of each rule, with its first connection, or 0 where it has no end."""
         found = [(REFUSED, "upstream", 0) for _ in self.refused]
@@ -60,14 +59,10 @@ class Case:
         reached = [rule for rule in self.rules if rule.proxy == proxy and (rule.last is None or rule.last >= number)]
         return bool(self.rules) and not reached and not self.refused
 
-    def renamed(self, names: Mapping[str, str]) -> List[Rule]:
-        """The rules on the proxies of a run."""
-        return [Rule(names[rule.proxy], rule.toxics, first=rule.first, last=rule.last) for rule in self.rules]
-
-    def allowance(self, streams: Sequence[StreamBytes], within: float) -> float:
-        """How much longer than `within` a client may take: what the rules delay in the recorded conversation, in seconds."""
-        delayed = sum(_delay(toxic, _widest(streams, rule.proxy, toxic.stream)) for rule in self.rules for toxic in rule.toxics)
-        return min(delayed, MAX_ALLOWANCE * within)
+    @cached_property
+    def delays(self) -> bool:
+        """Whether it may hold something back that comes later: all but what ends a stream at once."""
+        return any(not isinstance(toxic, ENDING) for rule in self.rules for toxic in rule.toxics)
 
 
 def word_of(toxic: Toxic) -> str:
@@ -77,27 +72,15 @@ def word_of(toxic: Toxic) -> str:
     return WORD_OF_TYPE[toxic.type]
 
 
-def _widest(streams: Sequence[StreamBytes], proxy: str, stream: str) -> StreamBytes:
-    """The recorded stream of a proxy with the most pieces."""
-    same = [each for each in streams if each.proxy == proxy and each.stream == stream]
-    return max(same, key=lambda each: len(each.pieces), default=StreamBytes(proxy, 1, stream, 0, "closed"))
+def batch_script(cases: Iterable[Tuple[Case, Mapping[str, str]]]) -> str:
+    """The script of some cases, each with the names of its run's proxies in place of those of the upstreams."""
+    return HEAD + "".join(_renamed(case.script[len(HEAD) :], names) for case, names in cases)
 
 
-def _delay(toxic: Toxic, stream: StreamBytes) -> float:
-    """What a toxic delays a recorded stream in all, in seconds. Silence that is later ended counts as a delay."""
-    pieces = len(stream.pieces) + SPARE_PIECES
-    if isinstance(toxic, Latency):
-        return (toxic.latency + toxic.jitter) * pieces / 1000
-    if isinstance(toxic, SlowClose):
-        return toxic.delay / 1000
-    if isinstance(toxic, Bandwidth):
-        return stream.bytes / 1000 / max(toxic.rate, 1)
-    if isinstance(toxic, Slicer):
-        smallest = max(toxic.average_size - toxic.size_variation, 1)
-        return (stream.bytes // smallest + pieces) * toxic.delay / 1e6
-    if isinstance(toxic, (Timeout, ResetPeer)):
-        return toxic.timeout / 1000
-    return 0.0
+def _renamed(text: str, names: Mapping[str, str]) -> str:
+    """The text of rules on other proxies. Text in a script has no line feed, so a line of one is none of a rule."""
+    lines = {f"proxy = {toml_value(name)}": f'proxy = "{other}"' for name, other in names.items()}
+    return "\n".join([lines.get(line, line) for line in text.split("\n")])
 
 
 def with_rules(case: Case, rules: Sequence[Rule]) -> Case:

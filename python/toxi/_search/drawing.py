@@ -15,9 +15,9 @@ from .words import REFUSED, SEARCHED, TYPES_OF_WORD
 
 # A number that is drawn is below this: a share of a range, in parts of it.
 PARTS = 10_000
-# Scripts are drawn as one block of bytes, which costs one draw, so many blocks at once.
-AT_ONCE = 64
-BLOCKS = 6
+# Scripts are drawn as one block of bytes, which costs one draw, so many blocks at once. The first block of Hypothesis has zeros alone.
+AT_ONCE = 200
+BLOCKS = 3
 # The space is used up where so many draws in a row gave no new script.
 MAX_STALE = 500
 MAX_TOXICS = 3
@@ -49,7 +49,7 @@ class DrawnFaults:
         """Raises `ValueError` for a stream, a type or a word that isn't one, and `ModuleNotFoundError` without Hypothesis."""
         from .. import strategies
 
-        strategies.toxics(stream=self.stream, kinds=self.kinds)
+        strategies.require_known(self.stream, self.kinds)
         unknown = [word for word in self.words or () if word not in SEARCHED]
         if unknown or self.words == ():
             raise ValueError(f"no fault {unknown[0]!r}; there are {', '.join(SEARCHED)}" if unknown else f"no fault is named; there are {', '.join(SEARCHED)}")
@@ -177,7 +177,7 @@ def drawn_scripts(seed: int) -> Iterator[List[Drawn]]:
         drawn: List[bytes] = []
         run_quietly(blocks(AT_ONCE * SCRIPT.size), drawn.append, BLOCKS, round_seed)
         for block in drawn:
-            yield from (_script_of(numbers) for numbers in SCRIPT.iter_unpack(block))
+            yield from map(_script_of, dict.fromkeys(SCRIPT.iter_unpack(block)))
 
 
 def _script_of(numbers: Sequence[int]) -> List[Drawn]:

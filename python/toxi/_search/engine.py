@@ -73,8 +73,7 @@ class Engine:
         searching, setup = self._searching, self._searching.trying.setup
         options = {name: setup.options.get(name) for name in ("program", "workers")}
         trials = Trials(setup.upstreams, setup.client, setup.within, self.seed, setup.before, **options)
-        allowance = smallest.failure.case.allowance(setup.streams, setup.within)
-        folder = FoundFolder(self.folder(len(self._found) + 1), smallest, self.source, trials, searching.trying.judge, allowance)
+        folder = FoundFolder(self.folder(len(self._found) + 1), smallest, self.source, trials, searching.trying.judge)
         self._found.append(folder.found(searching.trying.count, time.monotonic() - searching.begun))
 
     def _tried(self) -> Tuple[Tried, ...]:

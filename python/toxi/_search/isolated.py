@@ -70,7 +70,7 @@ class _ProcessAttempt(Attempt):
             text = pipe.read()
         status = self._process.wait()
         answered, value = pickle.loads(text) if text else (False, RuntimeError(f"the client's process ended with status {status}"))
-        (self.future.set_result if answered else self.future.set_exception)(value)
+        self.settle(*((value, None) if answered else (None, value)))
 
     def end(self) -> None:
         """Kills it."""

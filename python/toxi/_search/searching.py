@@ -1,4 +1,5 @@
 """A search: its phases, what they find, and how that is shrunk and repeated."""
+import itertools
 import time
 from dataclasses import dataclass, field
 from pathlib import Path
@@ -30,6 +31,8 @@ HANG_SHARE = 1 / 4
 HANGS_OF_PLACE = 2
 # The client must be done in a half of its limit without a fault.
 SLOWEST_SHARE = 0.5
+# Of so many drawn scripts those that delay nothing come first.
+DRAWN_AT_ONCE = 200
 PHASES = ("boundaries", "late answers", "outages", "drawn")
 
 
@@ -158,12 +161,14 @@ class Searching:
         self.conversation = self.trying.measure(conversation, Cases(cases), ended, self._is_wanted)
 
     def _drawn(self, conversation: Conversation) -> Iterable[Case]:
-        """So many new scripts as are asked for."""
+        """So many new scripts as are asked for, those that delay nothing first: their runs need no logs. A phase is drawn in parts, so that it begins soon."""
         drawing = Drawing(conversation, self.trying.called, self.faults, self.setup.within)
-        for number, case in enumerate(drawn_cases(drawing, self.seed, self._known)):
-            if number >= self.limits.runs:
+        drawn = itertools.islice(drawn_cases(drawing, self.seed, self._known), self.limits.runs)
+        while True:
+            part = list(itertools.islice(drawn, DRAWN_AT_ONCE))
+            if not part:
                 return
-            yield case
+            yield from sorted(part, key=_delays)
 
     def _queue(self, cases: Iterable[Case]) -> Cases:
         """Those that are new, and whose faults are asked for. Drawn ones are."""
@@ -177,6 +182,8 @@ class Searching:
 
     def _is_wanted(self, case: Case) -> bool:
         """Whether the client doesn't hang at its places, as far as is known."""
+        if not self._hung:
+            return True
         most = 1 if self._phase == PHASES[3] else HANGS_OF_PLACE
         return not any(self._hung.get(place, 0) >= most for place in case.places)
 
@@ -360,3 +367,7 @@ class Searching:
 
     def _watch(self) -> None:
         self.watch(Progress(self.trying.count, self.smallest, self._phase))
+
+
+def _delays(case: Case) -> bool:
+    return case.delays

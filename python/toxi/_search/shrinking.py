@@ -7,11 +7,10 @@ from ..smallness import KINDS
 from ..toxics import Latency, LimitData, ResetPeer, Slicer, Timeout, Toxic
 from .cases import Case, with_rules
 from .conversation import Conversation
+from .words import POSITIONS
 
 # Which of some cases fails in the way that is looked for: its place among them, or None.
 FirstFailing = Callable[[Sequence[Case]], Optional[int]]
-# The attribute with a position, by the type of the toxic. Those of times are halved alone: at the edge of a time limit a client fails now and then.
-POSITIONS = {"limit_data": "bytes", "reset_peer": "after", "timeout": "after"}
 STREAMS = ("downstream", "upstream")
 
 

@@ -4,16 +4,16 @@ import threading
 import time
 from collections import Counter, deque
 from dataclasses import dataclass, field, replace
-from typing import Callable, Deque, Dict, Iterable, Iterator, List, Sequence, Tuple
+from typing import Callable, Deque, Dict, Iterable, Iterator, List, Sequence, Set, Tuple
 
 from ..batches import Batch, BatchRun, ClientSetup
-from ..conversations import StreamBytes, longer_streams
+from ..conversations import StreamBytes, StreamKey, longer_streams
 from ..errors import ToxiError
 from ..lines import Link
 from ..outcomes import GRACE, Judge, Outcome, Verdict
 from .cases import Case, Place, word_of
 from .conversation import Conversation
-from .words import REFUSED
+from .words import POSITIONS, REFUSED
 
 MakeJudge = Callable[[Sequence[Outcome]], Judge]
 # Called with a run that has its outcome, and its verdict. A false value ends the runs.
@@ -86,16 +86,13 @@ class Trying:
     connections: "Counter[str]" = field(default_factory=Counter)
     called: Called = field(default_factory=dict)
     judge: Judge = field(init=False)
+    _recorded: Set[StreamKey] = field(default_factory=set)
     _lock: threading.Lock = field(default_factory=threading.Lock)
 
     def learn(self, slowest_share: float) -> Conversation:
         """Runs the client twice without a fault. Raises `ToxiError` where it isn't right, takes more than a share of its limit, or makes no connection."""
         __tracebackhide__ = True
-        # Each behind a serve of its own: with more than 32 upstreams there are no proxies for two runs.
-        batches = [Batch(self.setup, [Case()], _read_links) for _ in range(UNFAULTED)]
-        for batch in batches:
-            batch.run()
-        runs = [batch.runs[0] for batch in batches]
+        runs = self._unfaulted()
         outcomes = [run.outcome for run in runs if run.outcome is not None]
         try:
             self.judge = self.make_judge(outcomes)
@@ -108,10 +105,25 @@ class Trying:
         if not any(run.links for run in runs):
             raise ToxiError("the client makes no connection to its proxies")
         streams: List[StreamBytes] = []
-        for run in [*runs, *self._more_recorded(min(MOST_RECORDED, int(RECORDING / max(slowest, 0.001)), self.setup.batch_size))]:
+        more = self._more_recorded(min(MOST_RECORDED, int(RECORDING / max(slowest, 0.001)), self.setup.batch_size))
+        for run in [*runs, *filter(_is_right, more)]:
             streams = longer_streams(streams, run.streams)
-        self.setup = replace(self.setup, streams=streams)
+        # A client may keep a connection in its thread, and then it makes none in the next run.
+        most = max(len(run.links) for run in runs)
+        shares = len(more) > 1 and all(_is_right(run) and len(run.links) >= most for run in more)
+        self._recorded = {stream.key for stream in streams}
+        self.setup = replace(self.setup, keeps_logs=self.judge.reads_runs, shares_threads=shares)
         return Conversation(streams)
+
+    def _unfaulted(self) -> List[BatchRun]:
+        """Two runs without a fault. With more than 32 upstreams a `serve` has no proxies for two."""
+        __tracebackhide__ = True
+        found: List[BatchRun] = []
+        while len(found) < UNFAULTED:
+            batch = Batch(replace(self.setup, jobs=1), [Case()] * min(UNFAULTED - len(found), self.setup.batch_size))
+            batch.run()
+            found += batch.runs
+        return found
 
     def _require_services(self, error: ToxiError) -> None:
         """Raises `ToxiError` for a service that isn't there, which is why a client isn't right without a fault."""
@@ -124,13 +136,13 @@ class Trying:
                 raise ToxiError(f"no service answers at {upstream}, the upstream {name!r}: {absent}\n{error}") from None
 
     def _more_recorded(self, count: int) -> List[BatchRun]:
-        """More runs without a fault, for their pieces."""
+        """More runs without a fault, for their pieces, by threads that several share."""
         __tracebackhide__ = True
         if not count:
             return []
-        batch = Batch(self.setup, [Case()] * count)
+        batch = Batch(replace(self.setup, shares_threads=True), [Case()] * count)
         batch.run()
-        return [run for run in batch.runs if run.outcome is not None and run.outcome.error is None and not run.outcome.hung]
+        return batch.runs
 
     def measure(self, conversation: Conversation, cases: "Cases", ended: Ended, wanted: Wanted) -> Conversation:
         """The conversation with the time limits of the client. Its runs count as others do."""
@@ -198,14 +210,16 @@ class Trying:
             last = rule.last or max(self.connections[rule.proxy], rule.first)
             met = [link for link in run.links if link.proxy == rule.proxy and rule.first <= link.number <= last]
             for toxic in rule.toxics:
+                offset = getattr(toxic, POSITIONS.get(toxic.type, ""), 0)
                 carried = [link.down if toxic.stream == "downstream" else link.up for link in met]
                 place = (word_of(toxic), toxic.stream, 0 if rule.last is None else rule.first)
-                self._tally_one(place, any(_reached(toxic.attributes(), each) for each in carried))
+                # What begins with the stream is always reached.
+                self._tally_one(place, offset in carried if offset else bool(met))
 
     def _note_called(self, case: Case, link: Link) -> None:
         """Keeps a connection that isn't made without a fault, with the case that calls it forth: the one under which it carries the most."""
         key = link.proxy, link.number
-        if any((stream.proxy, stream.number) == key for stream in self.setup.streams) or not case.calls(*key):
+        if (*key, "downstream") in self._recorded or not case.calls(*key):
             return
         known = self.called.get(key)
         if known is None or (known[1].down, -len(known[0].rules)) < (link.down, -len(case.rules)):
@@ -217,14 +231,7 @@ class Trying:
         tally.reached += reached
 
 
-def _read_links(run: BatchRun) -> bool:
-    """A run without a fault is judged once others have ended too, when its logs are gone."""
-    assert run.outcome is not None and run.outcome.run is not None
-    run.outcome.run.links
-    return True
+def _is_right(run: BatchRun) -> bool:
+    """Whether a run without a fault has an answer."""
+    return run.outcome is not None and run.outcome.error is None and not run.outcome.hung
 
-
-def _reached(attributes: Dict[str, int], carried: int) -> bool:
-    """Whether a stream came as far as a toxic: it carried as many bytes as that lets through. What begins with the stream is always reached."""
-    offset = attributes.get("bytes", attributes.get("after", 0))
-    return carried == offset if offset else True

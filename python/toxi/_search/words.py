@@ -40,3 +40,5 @@ TYPES_OF_WORD: Dict[str, Tuple[str, ...]] = {
     "late": ("latency",),
     "refused": (),
 }
+# The attribute with a position in the stream, by the type of the toxic. Those of times are halved alone: at the edge of a time limit a client fails now and then.
+POSITIONS: Dict[str, str] = {"limit_data": "bytes", "reset_peer": "after", "timeout": "after"}
