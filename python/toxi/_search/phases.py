@@ -31,8 +31,7 @@ def boundary_cases(conversation: Conversation, within: float) -> List[Case]:
     found: List[Case] = []
     for fault in ENDINGS:
         for stream in _by_number(conversation.streams):
-            offsets = _silences(stream) if fault == "silent" else _offsets(stream)
-            found += [Case.of(FaultPoint(*stream.key, fault, offset)) for offset in offsets]
+            found += [Case.of(FaultPoint(*stream.key, fault, offset)) for offset in _offsets(stream)]
         if fault == "reset":
             found += list(_sliced(conversation.streams, within))
     return found
@@ -54,13 +53,6 @@ def _offsets(stream: StreamBytes) -> List[int]:
     halves = [stream.bytes // 2, *((one + other) // 2 for one, other in zip(at, at[1:]))]
     beside = [boundary + step for boundary in at for step in (1, -1)]
     return [offset for offset in dict.fromkeys([*at, *halves, *beside]) if 0 <= offset <= stream.bytes]
-
-
-def _silences(stream: StreamBytes) -> List[int]:
-    """As `_offsets`, without what is beside a boundary: a client that waits there waits in the middle of a piece too."""
-    at = _chosen(stream)
-    halves = [(one + other) // 2 for one, other in zip(at, at[1:])]
-    return list(dict.fromkeys([*at, *halves]))
 
 
 def _sliced(streams: Sequence[StreamBytes], within: float) -> Iterator[Case]:
