@@ -10,7 +10,7 @@ from typing import Callable, Dict, Iterable, List, Mapping, Optional, Sequence, 
 
 from ._search.cases import Case
 from ._search.conversation import Conversation, measuring_cases
-from ._search.edges import between, in_order
+from ._search.edges import between, in_order, late_between
 from ._search.trying import Cases, MakeJudge, Over, Trying
 from .base import StrPath
 from .batches import BatchRun, ClientSetup
@@ -197,17 +197,20 @@ class Sweeping:
         if point is None or outcome is None or verdict is None:
             return
         self._swept[point] = SweptPoint(point, verdict, is_reached(point, run.stream_of(point)), _detail(outcome, verdict, self._trying.judge.right))
+
     def _run_edges(self) -> None:
-        """Bisects between neighbours of different outcomes: the points where the outcome changes come before the rest. Of silence they come beside the rest."""
+        """Bisects between neighbours of different outcomes: the points where the outcome changes come before the rest. Those of silence and of late pieces come
+        beside the rest, since such a run takes the client's limit."""
         __tracebackhide__ = True
         chosen = set(self._chosen.points)
         while len(self._swept) < self._most:
-            middles = between(self._swept.values(), ENDINGS)[: self._most - len(self._swept)]
+            every = [*between(self._swept.values(), ENDINGS), *late_between(self._swept.values(), self._known.by_key)]
+            middles = every[: self._most - len(self._swept)]
             if not middles:
                 return
             more = [point for point in middles if point not in chosen]
             self._more += len(more)
-            self._beyond += 0 if self._every_silence else len([point for point in more if point.fault == "silent"])
+            self._beyond += len([point for point in more if point.fault == "late" or (point.fault == "silent" and not self._every_silence)])
             self._run(middles)
 
     def _run_again(self) -> None:
@@ -264,7 +267,8 @@ def is_reached(point: FaultPoint, stream: Optional[StreamBytes]) -> bool:
     if point.fault == "sliced":
         return max(stream.pieces, default=0) > point.offset
     if point.fault == "late":
-        return stream.bytes > point.offset
+        # A client may have given up before the piece was written.
+        return sum(stream.pieces) > point.offset
     # A plain timeout begins with the link. A `limit_data` of 0 closes at the first piece, and what is slow needs one too.
     return point.fault == "silent" or bool(stream.pieces)
 
