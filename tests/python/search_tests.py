@@ -10,9 +10,39 @@ from pathlib import Path
 import clients
 from find_tests import WITHIN, Searching
 from toxi import LimitData, Rule, Search, ToxiError, ToxiWarning, find_fault, script_text
+from toxi._search.conversation import Conversation
+from toxi._search.holding import held_seconds
+from toxi._search.phases import boundary_cases
+from toxi.conversations import StreamBytes
+from toxi.outcomes import run_client
 from toxi.shell_client import with_addresses
 
 OUTAGE = [Rule("shop", [LimitData()])]
+kept = threading.local()
+HEAD = "toxi log 1\nlink shop 1 downstream\nlanes 32 seed 1\n"
+# A log, and the milliseconds in which its stream held something back, seen at 900 ms.
+HELD = {
+    # Until the last byte of a piece was written, two pieces at once.
+    "20000 piece 4\n100000 piece 50\n320000 wrote 0..4 320000\n400000 wrote 4..54 400000\n400010 end\n400010 closed 400010\n": 380,
+    # One before the other, in slices.
+    "0 piece 2\n10000 wrote 0..1 10000\n20000 wrote 1..2 20000\n100000 piece 2\n150000 wrote 2..4 150000\n": 70,
+    # What may still come, and an end that is held back.
+    "100000 piece 4\n": 800,
+    "100000 piece 4\n100000 wrote 0..4 100000\n200000 end\n": 700,
+    # What is dropped doesn't come, and neither does a line that isn't whole.
+    "20000 open\n": 0,
+    "0 piece 4\n0 wrote 0..4 0\n10000 piece 4\n10000 open\n": 0,
+    "0 piece 4\nbroken write 0\n": 0,
+    "0 pie": 0,
+}
+
+
+def keeps_in_thread(addresses):
+    """It keeps its connection in its thread, and takes a cut body for a whole one."""
+    if not hasattr(kept, "link"):
+        kept.link = socket.create_connection(addresses["shop"], clients.LIMIT)
+    kept.link.sendall(clients.REQUEST)
+    return clients.parts(kept.link)[1]
 
 
 def late_answer(addresses):
@@ -145,6 +175,36 @@ class PhasesTests(Searching):
     def test_a_folder_that_can_not_be_written(self):
         with self.assertRaisesRegex(ToxiError, "can't be written"):
             self.search(clients.whole).find(folder="/proc/nowhere/found")
+
+
+class RunsTests(Searching):
+    def test_time_that_links_hold_back(self):
+        for text, milliseconds in HELD.items():
+            log = Path(self.folder, "shop-1-downstream.log")
+            log.write_text(HEAD + text, encoding="utf-8")
+            self.assertAlmostEqual(held_seconds([log, log], 0.9), 2 * milliseconds / 1000, msg=text)
+
+    def test_what_links_hold_back_is_no_hang(self):
+        late = run_client(lambda addresses: time.sleep(0.8), {}, 0.1, lambda: None, lambda now: 0.4)
+        self.assertFalse(late.hung)
+        begun = time.monotonic()
+        hangs = run_client(lambda addresses: time.sleep(2), {}, 0.1, lambda: None, lambda now: 0.1)
+        self.assertTrue(hangs.hung and hangs.returned)
+        self.assertLess(hangs.seconds, time.monotonic() - begun)
+        # A limit far above what a lock takes.
+        self.assertEqual(run_client(lambda addresses: 7, {}, 1e30, lambda: None).answer, 7)
+
+    def test_a_connection_that_a_thread_keeps(self):
+        # What a thread keeps isn't closed.
+        with warnings.catch_warnings():
+            warnings.simplefilter("ignore", ResourceWarning)
+            found = Search(self.shop, keeps_in_thread, within=WITHIN).find(max_found=1, faults=["closed"], folder=Path(self.folder, "kept")).found
+        self.assertEqual([each.kind for each in found], ["wrong answer"])
+
+    def test_silence_beside_boundaries(self):
+        stream = StreamBytes("shop", 1, "downstream", 30, "closed", (10, 20))
+        silent = {case.point.offset for case in boundary_cases(Conversation([stream]), WITHIN) if case.point.fault == "silent"}
+        self.assertLessEqual({0, 1, 9, 10, 11, 29, 30}, silent)
 
 
 class JudgedTests(Searching):

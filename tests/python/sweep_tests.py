@@ -12,8 +12,12 @@ from clients import PATIENCE, Refused, correct, one_recv, patient_cut_body, wait
 from services import Lines, serving
 
 from toxi import LimitData, Rule, Toxi, ToxiError, sweep_faults
+from toxi._search.edges import late_between
+from toxi._search.phases import late_point
 from toxi.chosen_points import chosen_points
 from toxi.conversations import StreamBytes
+from toxi.outcomes import HANG, RIGHT, WRONG
+from toxi.sweep_rows import SweptPoint
 
 EVERY = ("closed", "reset", "silent", "sliced", "slow", "late")
 # What a client makes of an end behind a whole request isn't promised: the answer may be faster. Nor of a reset behind a whole answer.
@@ -55,6 +59,10 @@ downstream 0 late by .. ms: right
 shop all upstream 6 silent: right
 shop all downstream 7 closed: right
 shop all downstream 7 silent: right"""
+
+
+# Late pieces: their offsets, delays in milliseconds, and verdicts.
+LATE = [(0, 100, RIGHT), (0, 180, WRONG), (0, 220, HANG), (40, 100, RIGHT), (40, 190, RIGHT)]
 
 
 class SweepTests(unittest.TestCase):
@@ -266,6 +274,15 @@ class ChosenPointsTests(unittest.TestCase):
             offsets = self.offsets(["closed"], most=most, streams=[large])
             self.assertEqual((len(offsets), len(set(offsets))), (most, most))
             self.assertEqual(len([offset for offset in offsets if offset < 512]), heads)
+
+    def test_late_pieces_are_bisected(self):
+        stream = StreamBytes("shop", 1, "downstream", 50, "closed", (10,) * 5, tuple(range(0, 50_000, 10_000)))
+        late = [SweptPoint(late_point(stream, offset, delay), verdict, True) for offset, delay, verdict in LATE]
+        found = late_between(late, {stream.key: stream})
+        # Between 100 and 180 ms there is an edge, and between 180 and 220 none that a client keeps to. Of the pieces at 0 and 40 the one between them is run.
+        self.assertEqual([(point.offset, point.delay // 1000) for point in found], [(0, 140), (20, 180), (20, 220)])
+        again = [*late, *(SweptPoint(point, WRONG, True) for point in found)]
+        self.assertNotIn(found[0], late_between(again, {stream.key: stream}))
 
     def test_a_stream_of_a_gigabyte(self):
         begun = time.monotonic()
