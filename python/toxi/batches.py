@@ -9,7 +9,7 @@ from functools import partial
 from pathlib import Path
 from typing import Any, Callable, Deque, Dict, List, Mapping, Optional, Sequence, Set, Union
 
-from ._search.attempts import FunctionClient
+from ._search.client_threads import FunctionClient
 from ._search.cases import Case, batch_script
 from ._search.client_run import ClientRun
 from ._search.holding import held_seconds
@@ -17,7 +17,7 @@ from ._search.serving import BatchToxi, remove_all
 from .conversations import StreamBytes, streams_of
 from .fault_points import FaultPoint
 from .lines import Address, Link
-from .outcomes import Addresses, Attempt, Client, Outcome, Startable, run_client
+from .outcomes import Addresses, StartedRun, Client, Outcome, Startable, run_client
 from .ports import refusing
 
 # A populate file has at most so many proxies.
@@ -62,16 +62,16 @@ class BatchRun:
 
 
 class _Noted(Startable):
-    """A client whose attempt is noted, so that it can be ended from another thread."""
+    """A client whose run is noted when it starts, so that it can be ended from another thread."""
 
-    def __init__(self, client: Startable, note: Callable[[Attempt], None]) -> None:
+    def __init__(self, client: Startable, note: Callable[[StartedRun], None]) -> None:
         self._client, self._note = client, note
 
-    def start(self, addresses: Addresses) -> Attempt:
+    def start(self, addresses: Addresses) -> StartedRun:
         """Starts it."""
-        attempt = self._client.start(addresses)
-        self._note(attempt)
-        return attempt
+        started = self._client.start(addresses)
+        self._note(started)
+        return started
 
 
 class Batch:
@@ -97,7 +97,7 @@ class Batch:
         self._client = setup.client if isinstance(setup.client, Startable) else FunctionClient(setup.client, setup.shares_threads)
         self._waiting: Deque[int] = deque(range(len(cases)))
         self._running: Set[int] = set()
-        self._attempts: Dict[int, Attempt] = {}
+        self._started: Dict[int, StartedRun] = {}
         self._changed = threading.Condition()
         self._places = {name: place for place, name in enumerate(setup.upstreams)}
         self._refused: Dict[str, Address] = {}
@@ -165,8 +165,8 @@ class Batch:
         if not self._wanted(run.case):
             run.dropped = True
             return
-        # Another thread ends an attempt only where there is one.
-        client = self._client if self._setup.jobs == 1 else _Noted(self._client, partial(self._attempts.__setitem__, number))
+        # Another thread ends a run only where there is one.
+        client = self._client if self._setup.jobs == 1 else _Noted(self._client, partial(self._started.__setitem__, number))
         addresses = {name: self._listening[f"{place}-{number}"] for name, place in self._places.items()}
         if run.case.refused:
             addresses.update({name: self._refused[name] for name in run.case.refused})
@@ -208,11 +208,11 @@ class Batch:
         """Ends what runs in other threads."""
         with self._changed:
             self._waiting.clear()
-            attempts = [self._attempts[number] for number in self._running if number in self._attempts]
+            left = [self._started[number] for number in self._running if number in self._started]
             self._running.clear()
             self._changed.notify_all()
-        for attempt in attempts:
-            attempt.end()
+        for started in left:
+            started.end()
         self._toxi.stop()
 
     def _note_links(self) -> None:

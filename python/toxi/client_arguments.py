@@ -6,7 +6,7 @@ from typing import List, Optional, Sequence, Tuple, Union
 
 from . import __version__
 from ._search.result import SearchResult
-from ._search.trying import MakeJudge
+from ._search.running import MakeJudge
 from .outcomes import WITHIN
 from .seeds import seed_argument
 from .shell_client import checks_by, direct_command, status_judge

@@ -20,7 +20,7 @@ from .program import found_program
 from .proxies import Proxy, populate_text
 from .runs import Position
 from .served import page_of
-from .trials import Trial, Trials
+from ._search.kept_runs import KeptRun, KeptRuns
 
 AGAIN = """#!/bin/sh
 # Runs the client again under script.toml and seed {seed}, and fails until it is mended.
@@ -30,7 +30,7 @@ folder="$(cd "$(dirname "$0")" && pwd)" && cd {directory} && TOXI={program} PYTH
 MISSED = 0.001
 MOST_TIMES = 50
 # A fault that comes each time is run once more for its logs, and another one until it comes, at most so often.
-MOST_TRIALS = 10
+MOST_KEPT = 10
 
 
 @dataclass(frozen=True)
@@ -40,7 +40,7 @@ class FoundFolder:
     folder: Optional[Path]
     smallest: Smallest
     source: ClientSource
-    trials: Trials
+    kept_runs: KeptRuns
     judge: Judge
 
     def found(self, runs: int, seconds: float) -> Found:
@@ -48,13 +48,13 @@ class FoundFolder:
         smallest, failure = self.smallest, self.smallest.failure
         folder = Path(tempfile.mkdtemp(prefix="toxi-found-")) if self.folder is None else self.folder.absolute()
         folder.mkdir(parents=True, exist_ok=True)
-        trial = self._trial() if failure.outcome.returned else None
+        kept = self._kept_run() if failure.outcome.returned else None
         try:
-            self._keep(trial, folder)
-            met = () if trial is None else _connections(trial)
+            self._keep(kept, folder)
+            met = () if kept is None else _connections(kept)
         finally:
-            if trial is not None:
-                trial.discard()
+            if kept is not None:
+                kept.discard()
         found = Found(
             script=failure.case.script,
             kind=str(failure.verdict),
@@ -62,7 +62,7 @@ class FoundFolder:
             failed=smallest.failed,
             repeated=smallest.repeated,
             connections=met,
-            seed=self.trials.seed,
+            seed=self.kept_runs.seed,
             runs=runs,
             seconds=seconds,
             folder=folder,
@@ -73,48 +73,48 @@ class FoundFolder:
         self._write_files(found)
         return found
 
-    def _trial(self) -> Trial:
+    def _kept_run(self) -> KeptRun:
         """A run with its logs: one that fails, if it comes soon enough."""
         case, verdict = self.smallest.failure.case, self.smallest.failure.verdict
-        trial = self.trials.run(case.rules, case.refused)
-        for _ in range(MOST_TRIALS - 1):
-            if self.judge.verdict(trial.outcome) == verdict or not trial.outcome.returned:
+        kept = self.kept_runs.run(case.rules, case.refused)
+        for _ in range(MOST_KEPT - 1):
+            if self.judge.verdict(kept.outcome) == verdict or not kept.outcome.returned:
                 break
-            trial.discard()
-            trial = self.trials.run(case.rules, case.refused)
-        return trial
+            kept.discard()
+            kept = self.kept_runs.run(case.rules, case.refused)
+        return kept
 
-    def _keep(self, trial: Optional[Trial], folder: Path) -> None:
-        if trial is None:
+    def _keep(self, kept: Optional[KeptRun], folder: Path) -> None:
+        if kept is None:
             failure = self.smallest.failure
-            proxies = [Proxy(name, upstream, enabled=name not in failure.case.refused) for name, upstream in self.trials.upstreams.items()]
+            proxies = [Proxy(name, upstream, enabled=name not in failure.case.refused) for name, upstream in self.kept_runs.upstreams.items()]
             (folder / "proxies.json").write_text(populate_text(proxies), encoding="utf-8")
             (folder / "script.toml").write_text(failure.case.script, encoding="utf-8")
             return
         try:
-            page = page_of(trial.run)
+            page = page_of(kept.serve_run)
         except ToxiError:
             # No connection was made, or its log can't be judged.
-            page = trial.run.page_path()
-        keep_run(trial.run, folder, Position(), page)
+            page = kept.serve_run.page_path()
+        keep_run(kept.serve_run, folder, Position(), page)
 
     def _write_files(self, found: Found) -> None:
         about = f"{found.kind} {found.times} under script.toml. This fails until the client is mended."
         times = _times(found.failed, found.repeated)
-        program = found_program() if self.trials.program is None else os.fspath(self.trials.program)
+        program = found_program() if self.kept_runs.program is None else os.fspath(self.kept_runs.program)
         paths = (("directory", "."), ("program", program), ("package", str(Path(__file__).parent.parent)))
         quoted = {name: shlex.quote(os.path.abspath(path)) for name, path in paths}
         files = {
             "seed": f"{found.seed}\n",
-            "test_found.py": self.source.test_text(about, self.trials.within, times),
+            "test_found.py": self.source.test_text(about, self.kept_runs.within, times),
             "again.sh": AGAIN.format(seed=found.seed, python=shlex.quote(sys.executable), **quoted),
         }
         for name, text in files.items():
             (found.folder / name).write_text(text, encoding="utf-8")
 
 
-def _connections(trial: Trial) -> Tuple[Met, ...]:
-    served = trial.served
+def _connections(kept: KeptRun) -> Tuple[Met, ...]:
+    served = kept.served
     met: List[Met] = []
     for link in sorted(served.links(), key=lambda link: (link.proxy, link.number)):
         toxics = [toxic for stream in STREAMS for toxic in served.pick(link.proxy, link.number, stream) if toxic.applied]

@@ -6,12 +6,14 @@ from enum import Enum
 from functools import cached_property
 from typing import Any, Callable, Optional, Sequence, Tuple, Type, Union
 
-from ._search.attempts import Addresses, Attempt, Client, FunctionClient, Place, Startable, run_here
+from ._search.client_threads import Addresses, StartedRun, Client, FunctionClient, Place, Startable, run_here
 from ._search.client_run import ClientRun
 from ._search.holding import LOG_LAG
 from .errors import ToxiError
 
 Check = Callable[..., Any]
+# The old name.
+Attempt = StartedRun
 Eventually = Callable[[ClientRun], Any]
 Allowed = Union[Type[BaseException], Tuple[Type[BaseException], ...]]
 # How long a client may take unless told, in seconds.
@@ -208,25 +210,25 @@ def run_client(
     `held` tells how long they have, in seconds, from the run's time: so much longer it may take, and `LOG_LAG` more.
     """
     begun = time.monotonic()
-    attempt = (client if isinstance(client, Startable) else FunctionClient(client)).start(addresses)
+    started = (client if isinstance(client, Startable) else FunctionClient(client)).start(addresses)
     try:
-        hung = not (attempt.wait(within) or (held is not None and _ends_late(attempt, begun, within, held)))
+        hung = not (started.wait(within) or (held is not None and _ends_late(started, begun, within, held)))
         seconds = time.monotonic() - begun
         if hung:
-            frames = attempt.frames()
-            attempt.end()
+            frames = started.frames()
+            started.end()
             end_links()
-            return Outcome(hung=True, returned=attempt.wait(GRACE), seconds=seconds, frames=frames)
+            return Outcome(hung=True, returned=started.wait(GRACE), seconds=seconds, frames=frames)
     except BaseException:
-        attempt.end()
+        started.end()
         raise
-    return Outcome(attempt.answer, attempt.error, seconds=seconds)
+    return Outcome(started.answer, started.error, seconds=seconds)
 
 
-def _ends_late(attempt: Attempt, begun: float, within: float, held: Held) -> bool:
+def _ends_late(started: StartedRun, begun: float, within: float, held: Held) -> bool:
     """Whether a client that has used its time returns in what its links have held back."""
     longer = within + LOG_LAG
-    while not attempt.wait(begun + longer - time.monotonic()):
+    while not started.wait(begun + longer - time.monotonic()):
         now = time.monotonic() - begun
         longer = within + LOG_LAG + min(held(now), MAX_HELD * within)
         if longer <= now:
@@ -251,6 +253,7 @@ __all__ = [
     "RIGHT",
     "SETTLED_WITHIN",
     "Startable",
+    "StartedRun",
     "Verdict",
     "WITHIN",
     "WRONG",

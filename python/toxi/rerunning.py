@@ -5,12 +5,12 @@ from pathlib import Path
 from typing import Any, Callable, Dict, Iterable, List, Optional, Sequence, Union
 
 from ._search.presets import allowed_classes
-from ._search.trying import MakeJudge
+from ._search.running import MakeJudge
 from .base import StrPath
 from .found import detail_of
 from .outcomes import SETTLED_WITHIN, WITHIN, Allowed, Check, Client, Eventually, Startable, judge_of
 from .shell_client import ShellClient, before_of, checks_by, direct_command, status_judge
-from .trials import Trials
+from ._search.kept_runs import KeptRuns
 
 
 def rerun(
@@ -30,8 +30,8 @@ def rerun(
     The rest is as for `find_fault`. Raises `AssertionError` where it isn't right.
     """
     __tracebackhide__ = True
-    trials = Trials(_upstreams(folder), client, within, _seed(folder), before)
-    _require_right(trials, partial(judge_of, check=check, allowed=allowed_classes(allowed), eventually=eventually, settle=settle), Path(folder), times)
+    kept_runs = KeptRuns(_upstreams(folder), client, within, _seed(folder), before)
+    _require_right(kept_runs, partial(judge_of, check=check, allowed=allowed_classes(allowed), eventually=eventually, settle=settle), Path(folder), times)
 
 
 def rerun_command(
@@ -46,25 +46,25 @@ def rerun_command(
 ) -> None:
     """As `rerun`, for a command, whose outputs are ours. `before` and `check` are a shell's commands, as for `toxi-find`."""
     __tracebackhide__ = True
-    trials = Trials(_upstreams(folder), ShellClient(tuple(command), None), within, _seed(folder), before_of(before))
+    kept_runs = KeptRuns(_upstreams(folder), ShellClient(tuple(command), None), within, _seed(folder), before_of(before))
     looks = None if check is None else checks_by(check)
-    judge = partial(status_judge, allowed_statuses=allowed_statuses, direct=direct_command(trials.upstreams, command), looks=looks)
-    _require_right(trials, judge, Path(folder), times)
+    judge = partial(status_judge, allowed_statuses=allowed_statuses, direct=direct_command(kept_runs.upstreams, command), looks=looks)
+    _require_right(kept_runs, judge, Path(folder), times)
 
 
-def _require_right(trials: Trials, make_judge: MakeJudge, folder: Path, times: int) -> None:
+def _require_right(kept_runs: KeptRuns, make_judge: MakeJudge, folder: Path, times: int) -> None:
     __tracebackhide__ = True
-    unfaulted = trials.run()
+    unfaulted = kept_runs.run()
     unfaulted.discard()
     judge = make_judge([unfaulted.outcome])
     script = (folder / "script.toml").read_text(encoding="utf-8")
     refused = frozenset(proxy["name"] for proxy in _proxies(folder) if proxy.get("enabled") is False)
     for _ in range(times):
-        trial = trials.run(script, refused)
-        trial.discard()
-        verdict = judge.verdict(trial.outcome)
+        kept = kept_runs.run(script, refused)
+        kept.discard()
+        verdict = judge.verdict(kept.outcome)
         if verdict.is_fault:
-            raise AssertionError(f"{verdict} under {folder / 'script.toml'}\n{detail_of(trial.outcome, verdict, judge.right)}".rstrip("\n"))
+            raise AssertionError(f"{verdict} under {folder / 'script.toml'}\n{detail_of(kept.outcome, verdict, judge.right)}".rstrip("\n"))
 
 
 def _upstreams(folder: StrPath) -> Dict[str, str]:

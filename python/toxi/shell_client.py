@@ -16,7 +16,7 @@ from typing import IO, Any, Callable, Dict, FrozenSet, Iterable, List, Mapping, 
 
 from ._search.client_run import ClientRun
 from .errors import ToxiError
-from .outcomes import RIGHT, WRONG, Addresses, Attempt, Equals, Judge, Kind, Outcome, Startable, Verdict
+from .outcomes import RIGHT, WRONG, Addresses, StartedRun, Equals, Judge, Kind, Outcome, Startable, Verdict
 from .process import tied_to_parent
 
 # How long a command may take to end by SIGTERM before SIGKILL, in seconds.
@@ -67,11 +67,11 @@ class ShellClient(Startable):
     command: Sequence[str]
     output: Output = subprocess.DEVNULL
 
-    def start(self, addresses: Addresses) -> Attempt:
+    def start(self, addresses: Addresses) -> StartedRun:
         """Starts the command in a session of its own. Raises `ToxiError` where it can't be run."""
         if shutil.which(self.command[0]) is None:
             raise ToxiError(f"{self.command[0]} isn't there, or can't be run")
-        return _CommandAttempt(with_addresses(self.command, addresses), variables_of(addresses), self.output)
+        return _CommandRun(with_addresses(self.command, addresses), variables_of(addresses), self.output)
 
 
 def with_addresses(command: Sequence[str], addresses: Mapping[str, object]) -> List[str]:
@@ -84,7 +84,7 @@ def with_addresses(command: Sequence[str], addresses: Mapping[str, object]) -> L
     return [named.sub(lambda found: values[found[0]], word) for word in command]
 
 
-class _CommandAttempt(Attempt):
+class _CommandRun(StartedRun):
     """A running command, waited for by a thread."""
 
     def __init__(self, command: Sequence[str], variables: Dict[str, str], output: Output) -> None:

@@ -7,7 +7,7 @@ from .conversations import StreamBytes
 from .fault_points import FAULTS
 from .lines import printed
 from .outcomes import Kind
-from .sweep_rows import NOT_REACHED, SweepRow, SweptPoint, rows_of, unbroken_rows_of
+from .sweep_rows import NOT_REACHED, SweepRow, SweptRun, rows_of, unbroken_rows_of
 
 # What differs by colour differs by height or by stripes too.
 STYLE = """
@@ -59,7 +59,7 @@ COLUMNS = ("Outcome", "Proxy", "Link", "Stream", "Fault", "Offsets", "Runs", "De
 MAX_SAID = 12
 
 
-def page_text(streams: Sequence[StreamBytes], swept: Sequence[SweptPoint], lines: Iterable[str]) -> str:
+def page_text(streams: Sequence[StreamBytes], swept: Sequence[SweptRun], lines: Iterable[str]) -> str:
     """The page of what was swept, with some lines at its top."""
     rows = rows_of(swept, streams)
     body = [f"<p>{escape(line)}</p>" for line in lines] + _key({_class_of(row) for row in rows})

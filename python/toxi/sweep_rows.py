@@ -18,7 +18,7 @@ MAX_RACED = 4
 
 
 @dataclass(frozen=True)
-class SweptPoint:
+class SweptRun:
     """A point that was run, its verdict, and whether its link came as far as the point. `detail` is a wrong answer, or an exception's text.
 
     `other_runs` counts the runs in which a failure was looked for again and didn't come.
@@ -46,6 +46,10 @@ class SweptPoint:
         return (*_line_of(self.point), self.outcome, self.verdict.is_fault, self.reached, self.other_runs)
 
 
+# The old name.
+SweptPoint = SweptRun
+
+
 def _line_of(point: FaultPoint) -> Tuple[str, int, str, str]:
     """What the points of a line of the table share: the proxy, the connection, the stream and the fault."""
     return point.proxy, point.number, point.stream, point.fault
@@ -60,7 +64,7 @@ class SweepRow:
     `runs` came to its outcome.
     """
 
-    first: SweptPoint
+    first: SweptRun
     last_offset: int
     runs: int
     delays: Tuple[int, int] = (0, 0)
@@ -137,7 +141,7 @@ class SweepRow:
         return f"<{printed(self.proxy)} {self.connection} {self}>"
 
 
-def rows_of(swept: Iterable[SweptPoint], streams: Iterable[StreamBytes]) -> List[SweepRow]:
+def rows_of(swept: Iterable[SweptRun], streams: Iterable[StreamBytes]) -> List[SweepRow]:
     """The rows of what was swept: wrong answers and hangs first, then in the order of connections, streams, faults and offsets."""
     carried = {stream.key: stream.bytes for stream in streams}
     found: List[SweepRow] = []
@@ -158,7 +162,7 @@ def _raced(rows: Sequence[SweepRow], of: int) -> List[SweepRow]:
     return found
 
 
-def unbroken_rows_of(swept: Iterable[SweptPoint], streams: Iterable[StreamBytes]) -> List[SweepRow]:
+def unbroken_rows_of(swept: Iterable[SweptRun], streams: Iterable[StreamBytes]) -> List[SweepRow]:
     """As `rows_of`, but each offset of a row was run, and what is worst comes last."""
     carried = {stream.key: stream.bytes for stream in streams}
     numbered = enumerate(_ordered(swept))
@@ -166,13 +170,13 @@ def unbroken_rows_of(swept: Iterable[SweptPoint], streams: Iterable[StreamBytes]
     return sorted((_row([each for _, each in same], carried) for _, same in grouped), key=_severity, reverse=True)
 
 
-def _row(same: Sequence[SweptPoint], carried: Dict[StreamKey, int]) -> SweepRow:
+def _row(same: Sequence[SweptRun], carried: Dict[StreamKey, int]) -> SweepRow:
     point, last = same[0].point, same[-1].point
     delays = sorted(each.point.delay // MILLIS for each in same) if point.fault in DELAYS else [0]
     return SweepRow(same[0], carried[point.key] if point.fault == "slow" else last.offset, len(same), (delays[0], delays[-1]))
 
 
-def _ordered(swept: Iterable[SweptPoint]) -> List[SweptPoint]:
+def _ordered(swept: Iterable[SweptRun]) -> List[SweptRun]:
     return sorted(swept, key=lambda each: _place(each.point))
 
 

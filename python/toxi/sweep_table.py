@@ -7,7 +7,7 @@ from .conversations import StreamBytes
 from .fault_points import FaultPoint
 from .lines import printed
 from .sweep_page import page_text
-from .sweep_rows import SweepRow, SweptPoint, rows_of
+from .sweep_rows import SweepRow, SweptRun, rows_of
 
 # Faults that end the conversation at once, and how many rows of hangs there may be under them.
 AT_ONCE = ("closed", "reset")
@@ -23,7 +23,7 @@ class Sweep:
     """
 
     streams: Sequence[StreamBytes]
-    swept: Sequence[SweptPoint]
+    swept: Sequence[SweptRun]
     chosen: int
     possible: int
     seconds: float

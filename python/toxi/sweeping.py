@@ -11,7 +11,7 @@ from typing import Callable, Dict, Iterable, List, Mapping, Optional, Sequence, 
 from ._search.cases import Case
 from ._search.conversation import Conversation, measuring_cases
 from ._search.edges import between, in_order, late_between
-from ._search.trying import Cases, MakeJudge, Over, Trying
+from ._search.running import Cases, MakeJudge, Over, Runner
 from .base import StrPath
 from .batches import BatchRun, ClientSetup
 from .chosen_points import ChosenPoints, chosen_points
@@ -19,7 +19,7 @@ from .conversations import StreamBytes
 from .fault_points import DELAYS, ENDINGS, FaultPoint
 from .lines import printed
 from .outcomes import WITHIN, Allowed, Check, Client, Kind, Outcome, Startable, Verdict
-from .sweep_rows import SweptPoint
+from .sweep_rows import SweptRun
 from .sweep_table import Sweep
 
 Progress = Callable[["Sweeping"], object]
@@ -124,12 +124,12 @@ class Sweeping:
         self._choose, self._repeats, self._max_found, self._most, self._measures = choose, repeats, max_found, most, measures
         self._every_silence = every_silence
         self._begun = time.monotonic()
-        self._trying = Trying(setup, judge_maker, math.inf if budget is None else self._begun + budget)
+        self._runner = Runner(setup, judge_maker, math.inf if budget is None else self._begun + budget)
         self._known = Conversation(())
         self._chosen = ChosenPoints((), 0)
         # Points at edges that weren't chosen, and those of them that aren't counted as possible.
         self._more = self._beyond = 0
-        self._swept: Dict[FaultPoint, SweptPoint] = {}
+        self._swept: Dict[FaultPoint, SweptRun] = {}
         self._verdicts: Dict[FaultPoint, Verdict] = {}
         self._ended: Optional[str] = "it was interrupted"
         # How many runs came to each kind so far, whether their points were reached or not.
@@ -145,13 +145,13 @@ class Sweeping:
         """What was found so far."""
         possible = self._chosen.possible + self._beyond
         seconds = time.monotonic() - self._begun
-        return Sweep(self._known.streams, list(self._swept.values()), self.chosen, possible, seconds, self._ended, self._trying.setup.within)
+        return Sweep(self._known.streams, list(self._swept.values()), self.chosen, possible, seconds, self._ended, self._runner.setup.within)
 
     def run(self, progress: Progress = lambda sweeping: None) -> None:
         """Runs the chosen points. `progress` is called behind each run, by the thread that ran it."""
         __tracebackhide__ = True
-        self._known = self._trying.learn(1.0)
-        self._trying.watch = lambda: progress(self)
+        self._known = self._runner.learn(1.0)
+        self._runner.watch = lambda: progress(self)
         try:
             self._run_all()
             self._ended = None
@@ -161,8 +161,8 @@ class Sweeping:
     def _run_all(self) -> None:
         __tracebackhide__ = True
         if self._measures:
-            self._known = self._trying.measure(self._known, Cases(measuring_cases(self._known.streams)), lambda run, verdict: True, lambda case: True)
-        self._trying.count = 0
+            self._known = self._runner.measure(self._known, Cases(measuring_cases(self._known.streams)), lambda run, verdict: True, lambda case: True)
+        self._runner.count = 0
         self._chosen = self._choose(self._known)
         points = self._chosen.points
         self._run(points[: self._chosen.first])
@@ -183,20 +183,20 @@ class Sweeping:
             self.kinds[verdict.kind] += 1
             return True
 
-        self._trying.finished = self._note
+        self._runner.finished = self._note
         try:
-            for _ in self._trying.run(Cases(map(Case.of, points)), ended, reads_logs=True):
+            for _ in self._runner.run(Cases(map(Case.of, points)), ended, reads_logs=True):
                 if self._max_found is not None and sum(each.fails for each in self._swept.values()) >= self._max_found:
                     raise Over("max_found")
         finally:
-            self._trying.finished = lambda run: None
+            self._runner.finished = lambda run: None
 
     def _note(self, run: BatchRun) -> None:
         point, outcome = run.case.point, run.outcome
         verdict = None if point is None else self._verdicts.get(point)
         if point is None or outcome is None or verdict is None:
             return
-        self._swept[point] = SweptPoint(point, verdict, is_reached(point, run.stream_of(point)), _detail(outcome, verdict, self._trying.judge.right))
+        self._swept[point] = SweptRun(point, verdict, is_reached(point, run.stream_of(point)), _detail(outcome, verdict, self._runner.judge.right))
 
     def _run_edges(self) -> None:
         """Bisects between neighbours of different outcomes: the points where the outcome changes come before the rest. Those of silence and of late pieces come
@@ -217,8 +217,8 @@ class Sweeping:
         """Runs points that stand alone among neighbours of another outcome again, one after the other: a failure until it comes again, at most `MORE_RUNS`
         times, and what isn't one once."""
         __tracebackhide__ = True
-        setup = self._trying.setup
-        self._trying.setup = replace(setup, jobs=1)
+        setup = self._runner.setup
+        self._runner.setup = replace(setup, jobs=1)
         single = {row.first.point: row.first.verdict for row in self.sweep.failures if row.runs == 1}
         frayed = [point for point in _frayed(self._swept.values()) if point not in single]
         try:
@@ -227,7 +227,7 @@ class Sweeping:
                 verdicts = self._verdicts_again(list(single))
                 single = {point: verdict for point, verdict in single.items() if verdicts.get(point, verdict) != verdict}
         finally:
-            self._trying.setup = setup
+            self._runner.setup = setup
         for point in single:
             self._swept[point] = replace(self._swept[point], other_runs=MORE_RUNS)
 
@@ -241,11 +241,11 @@ class Sweeping:
             verdicts[run.case.point] = verdict
             return True
 
-        list(self._trying.run(Cases(map(Case.of, points)), ended))
+        list(self._runner.run(Cases(map(Case.of, points)), ended))
         return verdicts
 
 
-def _frayed(swept: Iterable[SweptPoint]) -> List[FaultPoint]:
+def _frayed(swept: Iterable[SweptRun]) -> List[FaultPoint]:
     """The points whose outcome differs from that of both neighbours, which have the same."""
     ordered = in_order(swept, ENDINGS)
     found = []

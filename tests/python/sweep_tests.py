@@ -17,7 +17,7 @@ from toxi._search.phases import late_point
 from toxi.chosen_points import chosen_points
 from toxi.conversations import StreamBytes
 from toxi.outcomes import HANG, RIGHT, WRONG
-from toxi.sweep_rows import SweptPoint
+from toxi.sweep_rows import SweptRun
 
 EVERY = ("closed", "reset", "silent", "sliced", "slow", "late")
 # What a client makes of an end behind a whole request isn't promised: the answer may be faster. Nor of a reset behind a whole answer.
@@ -277,11 +277,11 @@ class ChosenPointsTests(unittest.TestCase):
 
     def test_late_pieces_are_bisected(self):
         stream = StreamBytes("shop", 1, "downstream", 50, "closed", (10,) * 5, tuple(range(0, 50_000, 10_000)))
-        late = [SweptPoint(late_point(stream, offset, delay), verdict, True) for offset, delay, verdict in LATE]
+        late = [SweptRun(late_point(stream, offset, delay), verdict, True) for offset, delay, verdict in LATE]
         found = late_between(late, {stream.key: stream})
         # Between 100 and 180 ms there is an edge, and between 180 and 220 none that a client keeps to. Of the pieces at 0 and 40 the one between them is run.
         self.assertEqual([(point.offset, point.delay // 1000) for point in found], [(0, 140), (20, 180), (20, 220)])
-        again = [*late, *(SweptPoint(point, WRONG, True) for point in found)]
+        again = [*late, *(SweptRun(point, WRONG, True) for point in found)]
         self.assertNotIn(found[0], late_between(again, {stream.key: stream}))
 
     def test_a_stream_of_a_gigabyte(self):

@@ -10,7 +10,7 @@ from ..rules import Rule
 from ..toxics import Bandwidth, Latency, LimitData, ResetPeer, Slicer, SlowClose, Timeout, Toxic
 from .cases import Case, word_of
 from .conversation import Conversation
-from .trying import Called
+from .running import Called
 from .words import REFUSED, SEARCHED, TYPES_OF_WORD
 
 # A number that is drawn is below this: a share of a range, in parts of it.

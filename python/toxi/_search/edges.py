@@ -3,14 +3,14 @@ from typing import Dict, Iterable, List, Mapping, Sequence
 
 from ..conversations import StreamBytes, StreamKey
 from ..fault_points import MILLIS, FaultPoint
-from ..sweep_rows import SweptPoint
+from ..sweep_rows import SweptRun
 from .phases import late_point
 
 # Two delays that differ by at most this share of the shorter have no edge between them that a client keeps to.
 CLOSE = 0.25
 
 
-def between(swept: Iterable[SweptPoint], faults: Sequence[str]) -> List[FaultPoint]:
+def between(swept: Iterable[SweptRun], faults: Sequence[str]) -> List[FaultPoint]:
     """For each two neighbours of a stream and a fault that differ in outcome, the point in the middle between them."""
     ordered = in_order(swept, faults)
     found = []
@@ -22,14 +22,14 @@ def between(swept: Iterable[SweptPoint], faults: Sequence[str]) -> List[FaultPoi
     return found
 
 
-def late_between(swept: Iterable[SweptPoint], streams: Mapping[StreamKey, StreamBytes]) -> List[FaultPoint]:
+def late_between(swept: Iterable[SweptRun], streams: Mapping[StreamKey, StreamBytes]) -> List[FaultPoint]:
     """For each two neighbours of a stream whose late pieces differ in outcome, the point in the middle: of two delays of a piece the mean, and of two pieces with
     nearly the same delay the one between them."""
     ordered = in_order(swept, ("late",))
     known = {each.point for each in ordered}
     found: List[FaultPoint] = []
     for key in dict.fromkeys(each.point.key for each in ordered):
-        pieces: Dict[int, List[SweptPoint]] = {}
+        pieces: Dict[int, List[SweptRun]] = {}
         for each in ordered:
             if each.point.key == key:
                 pieces.setdefault(each.point.offset, []).append(each)
@@ -38,7 +38,7 @@ def late_between(swept: Iterable[SweptPoint], streams: Mapping[StreamKey, Stream
     return [point for point in dict.fromkeys(found) if point not in known]
 
 
-def _between_delays(stream: StreamBytes, pieces: Mapping[int, Sequence[SweptPoint]]) -> List[FaultPoint]:
+def _between_delays(stream: StreamBytes, pieces: Mapping[int, Sequence[SweptRun]]) -> List[FaultPoint]:
     found = []
     for offset, points in pieces.items():
         for one, other in zip(points, points[1:]):
@@ -48,7 +48,7 @@ def _between_delays(stream: StreamBytes, pieces: Mapping[int, Sequence[SweptPoin
     return found
 
 
-def _between_pieces(stream: StreamBytes, pieces: Mapping[int, Sequence[SweptPoint]]) -> List[FaultPoint]:
+def _between_pieces(stream: StreamBytes, pieces: Mapping[int, Sequence[SweptRun]]) -> List[FaultPoint]:
     found = []
     offsets = sorted(pieces)
     for first, last in zip(offsets, offsets[1:]):
@@ -60,10 +60,10 @@ def _between_pieces(stream: StreamBytes, pieces: Mapping[int, Sequence[SweptPoin
     return found
 
 
-def in_order(swept: Iterable[SweptPoint], faults: Sequence[str]) -> List[SweptPoint]:
+def in_order(swept: Iterable[SweptRun], faults: Sequence[str]) -> List[SweptRun]:
     """The points of single connections under some faults, neighbours beside each other."""
     return sorted((each for each in swept if each.point.fault in faults and each.point.number), key=_place)
 
 
-def _place(swept: SweptPoint) -> "tuple[str, int, str, str, int, int]":
+def _place(swept: SweptRun) -> "tuple[str, int, str, str, int, int]":
     return (*swept.point.key, swept.point.fault, swept.point.offset, swept.point.delay)

@@ -9,12 +9,12 @@ from ..client_source import ClientSource
 from ..errors import ToxiError
 from ..found import Found
 from ..found_folder import FoundFolder
-from ..trials import Trials
+from .kept_runs import KeptRuns
 from .drawing import DrawnFaults
 from .failures import Failure
 from .result import Flaky, SearchResult, Tried
 from .searching import Searching, SearchLimits, Smallest, Watch
-from .trying import MakeJudge
+from .running import MakeJudge
 
 
 @dataclass
@@ -48,7 +48,7 @@ class Engine:
             ended_by,
             tuple(searching.done),
             () if known is None else tuple(map(str, known.limits)),
-            searching.trying.count,
+            searching.runner.count,
             time.monotonic() - searching.begun,
         )
 
@@ -70,14 +70,14 @@ class Engine:
 
     def _hand_over(self, smallest: Smallest) -> None:
         __tracebackhide__ = True
-        searching, setup = self._searching, self._searching.trying.setup
+        searching, setup = self._searching, self._searching.runner.setup
         options = {name: setup.options.get(name) for name in ("program", "workers")}
-        trials = Trials(setup.upstreams, setup.client, setup.within, self.seed, setup.before, **options)
-        folder = FoundFolder(self.folder(len(self._found) + 1), smallest, self.source, trials, searching.trying.judge)
-        self._found.append(folder.found(searching.trying.count, time.monotonic() - searching.begun))
+        kept_runs = KeptRuns(setup.upstreams, setup.client, setup.within, self.seed, setup.before, **options)
+        folder = FoundFolder(self.folder(len(self._found) + 1), smallest, self.source, kept_runs, searching.runner.judge)
+        self._found.append(folder.found(searching.runner.count, time.monotonic() - searching.begun))
 
     def _tried(self) -> Tuple[Tried, ...]:
-        tallies = sorted(self._searching.trying.tallies.items())
+        tallies = sorted(self._searching.runner.tallies.items())
         return tuple(Tried(word, stream, str(number or "all"), tally.runs, tally.reached) for (word, stream, number), tally in tallies)
 
 

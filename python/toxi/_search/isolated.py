@@ -10,7 +10,7 @@ from typing import Any, Union
 
 from ..errors import ToxiError
 from ..lines import Address
-from ..outcomes import Addresses, Attempt, Client, Startable, run_here
+from ..outcomes import Addresses, StartedRun, Client, Startable, run_here
 from ..process import tied_to_parent
 from ..sources import source_of
 
@@ -34,9 +34,9 @@ class Isolated(Startable):
             raise ToxiError(f"no client {name!r}: {error}") from None
         return found
 
-    def start(self, addresses: Addresses) -> Attempt:
+    def start(self, addresses: Addresses) -> StartedRun:
         """Starts a process that runs it."""
-        return _ProcessAttempt(self._name, addresses)
+        return _ProcessRun(self._name, addresses)
 
 
 def _missing(name: str) -> Any:
@@ -50,7 +50,7 @@ def _name_of(client: Client) -> str:
     return f"{source.module}:{source.name}"
 
 
-class _ProcessAttempt(Attempt):
+class _ProcessRun(StartedRun):
     """A process that is waited for by a thread. It imports from where this one does, and pickles its answer to a pipe."""
 
     def __init__(self, name: str, addresses: Addresses) -> None:

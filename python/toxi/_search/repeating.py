@@ -10,7 +10,7 @@ from .cases import Case
 from .conversation import Conversation
 from .failures import Failure
 from .shrinking import shrunk
-from .trying import Cases, Over, Trying
+from .running import Cases, Over, Runner
 
 # How often the smallest fault is run again.
 REPETITIONS = 10
@@ -26,7 +26,7 @@ HANG_SHARE = 1 / 4
 class Repeating:
     """Repeats failures within a budget, in seconds. `takes` says of a case whether its faults are asked for. `current` is the failure that is shrunk."""
 
-    trying: Trying
+    runner: Runner
     root: Path
     budget: float
     takes: Callable[[Case], bool]
@@ -48,7 +48,7 @@ class Repeating:
             return until is None or verdict == until
 
         try:
-            list(self.trying.run(Cases([case] * times), ended))
+            list(self.runner.run(Cases([case] * times), ended))
         except Over:
             # What runs next raises it again.
             pass
@@ -97,11 +97,11 @@ class Repeating:
             return not failed
 
         self._require_reserve(like)
-        list(self.trying.run(Cases(cases), ended))
+        list(self.runner.run(Cases(cases), ended))
         return failed[0] if failed else None
 
     def _require_reserve(self, like: Failure) -> None:
         """Shrinking leaves the repetitions their time, and hangs take a quarter of the budget at most."""
         reserve = min(REPETITIONS * like.outcome.seconds, REPETITION_SHARE * self.budget)
-        if time.monotonic() + reserve >= self.trying.end or (like.is_hang and self.trying.hanging > HANG_SHARE * self.budget):
+        if time.monotonic() + reserve >= self.runner.end or (like.is_hang and self.runner.hanging > HANG_SHARE * self.budget):
             raise Over("budget")

@@ -16,7 +16,7 @@ from .failures import Failure, FailureKey
 from .known import Known
 from .phases import boundary_cases, late_cases, outage_cases
 from .repeating import REPETITIONS, Repeating
-from .trying import Cases, Ended, MakeJudge, Over, Trying
+from .running import Cases, Ended, MakeJudge, Over, Runner
 
 # Where no fault does that, one counts that the client fails under at least once more in so many runs.
 CHANCES = 5
@@ -94,8 +94,8 @@ class Searching:
 
     def __post_init__(self) -> None:
         self.begun = time.monotonic()
-        self.trying = Trying(self.setup, self.make_judge, self.begun + self.limits.budget, self._watch)
-        self._repeating = Repeating(self.trying, self.root, self.limits.budget, self._takes)
+        self.runner = Runner(self.setup, self.make_judge, self.begun + self.limits.budget, self._watch)
+        self._repeating = Repeating(self.runner, self.root, self.limits.budget, self._takes)
 
     def run(self) -> str:
         """Searches until it is done. Returns why it ended, a word of `SearchResult.ended_by`."""
@@ -110,7 +110,7 @@ class Searching:
 
     def _learn_and_search(self) -> None:
         __tracebackhide__ = True
-        self.conversation = self.trying.learn(SLOWEST_SHARE)
+        self.conversation = self.runner.learn(SLOWEST_SHARE)
         try:
             self._search()
             self._shrink_hangs()
@@ -148,11 +148,11 @@ class Searching:
             return
         self._known.update(case.key for case in cases)
         ended: Ended = self._ended if all(counted) else lambda run, verdict: True
-        self.conversation = self.trying.measure(conversation, Cases(cases), ended, self._is_wanted)
+        self.conversation = self.runner.measure(conversation, Cases(cases), ended, self._is_wanted)
 
     def _drawn(self, conversation: Conversation) -> Iterable[Case]:
         """So many new scripts as are asked for, those that delay nothing first: their runs need no logs. A phase is drawn in parts, so that it begins soon."""
-        drawing = Drawing(conversation, self.trying.called, self.faults, self.setup.within)
+        drawing = Drawing(conversation, self.runner.called, self.faults, self.setup.within)
         drawn = itertools.islice(drawn_cases(drawing, self.seed, self._known), self.limits.runs)
         while True:
             part = list(itertools.islice(drawn, DRAWN_AT_ONCE))
@@ -190,7 +190,7 @@ class Searching:
         __tracebackhide__ = True
         while not self._is_full:
             # The runs of one batch.
-            ran = next(self.trying.run(cases, self._ended, self._is_wanted), None)
+            ran = next(self.runner.run(cases, self._ended, self._is_wanted), None)
             self._take_new()
             if ran is None:
                 return
@@ -287,7 +287,7 @@ class Searching:
         self.flaky += self._failures.new
 
     def _watch(self) -> None:
-        self.watch(Progress(self.trying.count, self.smallest, self._phase))
+        self.watch(Progress(self.runner.count, self.smallest, self._phase))
 
 
 def _delays(case: Case) -> bool:

@@ -1,4 +1,4 @@
-"""Clients that run: a function in a thread, which may call it again for a later run."""
+"""Runs of a client that have been started: a function in a thread, which may call it again for a later run."""
 import asyncio
 import contextvars
 import inspect
@@ -21,8 +21,8 @@ Place = Tuple[str, int, str]
 ABOVE = (PACKAGE, os.path.dirname(asyncio.__file__) + os.sep)
 
 
-class Attempt(ABC):
-    """A client that runs. Once it has ended it has an `answer`, or an `error`."""
+class StartedRun(ABC):
+    """A run of a client that was started. Once it has ended it has an `answer`, or an `error`."""
 
     answer: Any = None
     error: Optional[BaseException] = None
@@ -54,10 +54,10 @@ class Attempt(ABC):
 
 
 class Startable(ABC):
-    """A client that is no function: it starts its attempts itself, several at once too."""
+    """A client that is no function: it starts its runs itself, several at once too."""
 
     @abstractmethod
-    def start(self, addresses: Addresses) -> Attempt:
+    def start(self, addresses: Addresses) -> StartedRun:
         """Starts one with the addresses of its proxies."""
 
 
@@ -72,9 +72,9 @@ class FunctionClient(Startable):
         self._shares = shares
         self._idle: Deque[_Thread] = deque()
 
-    def start(self, addresses: Addresses) -> Attempt:
+    def start(self, addresses: Addresses) -> StartedRun:
         """Calls it in a thread."""
-        call = _Call(self._client, addresses)
+        call = _CalledRun(self._client, addresses)
         try:
             thread = self._idle.pop()
         except IndexError:
@@ -95,11 +95,11 @@ class _Thread:
         self._idle = idle
         self._given = threading.Lock()
         self._given.acquire()
-        self._call: Optional[_Call] = None
+        self._call: Optional[_CalledRun] = None
         # A daemon: a client that never returns mustn't keep the interpreter.
         threading.Thread(target=self._run, name="toxi client", daemon=True).start()
 
-    def give(self, call: "Optional[_Call]") -> None:
+    def give(self, call: "Optional[_CalledRun]") -> None:
         """The next call, or None to end. It is given to a thread that is idle."""
         self._call = call
         self._given.release()
@@ -120,7 +120,7 @@ class _Thread:
             del call
 
 
-class _Call(Attempt):
+class _CalledRun(StartedRun):
     """A call of a function."""
 
     def __init__(self, client: Client, addresses: Addresses) -> None:

@@ -1,4 +1,4 @@
-"""`Trying`: runs a client under cases, in batches, within a budget, and counts what came."""
+"""`Runner` runs a client under cases, in batches, within a budget, and counts what came."""
 import socket
 import threading
 import time
@@ -70,7 +70,7 @@ class Cases:
 
 
 @dataclass
-class Trying:
+class Runner:
     """Runs cases. `end` is when the budget is used, by `time.monotonic`. `watch` is called after each run, and `finished` with each once its links have their
     lines, also where something ends the batch. `count` counts the runs, but for those without a fault."""
 
