@@ -1,12 +1,13 @@
 """Runs a search of any client: a function, a process of its own, or a command."""
 import time
+import warnings
 from dataclasses import dataclass
 from pathlib import Path
 from typing import Callable, List, Optional, Tuple
 
 from ..batches import ClientSetup
 from ..client_source import ClientSource
-from ..errors import ToxiError
+from ..errors import ToxiError, ToxiWarning
 from ..found import Found
 from ..found_folder import FoundFolder
 from .kept_runs import KeptRuns
@@ -39,7 +40,11 @@ class Engine:
         self._searching = searching = Searching(
             self.setup, self.make_judge, self.faults, self.limits, self.seed, self.root, self._hand_over, self.watch or (lambda progress: None)
         )
-        ended_by = searching.run()
+        try:
+            ended_by = searching.run()
+        except BaseException as error:
+            self._tell_found(error)
+            raise
         known = searching.conversation
         return SearchResult(
             tuple(self._found),
@@ -51,6 +56,12 @@ class Engine:
             searching.runner.count,
             time.monotonic() - searching.begun,
         )
+
+    def _tell_found(self, error: BaseException) -> None:
+        """A `ToxiWarning` where something has broken the search off that had found something."""
+        if self._found:
+            commands = "".join(f"\n{found.kind}: {found.command}" for found in self._found)
+            warnings.warn(f"{type(error).__name__} has ended the search, which had found{commands}", ToxiWarning, stacklevel=4)
 
     def _require(self) -> None:
         # None is to mean that no fault was found, and not that none was tried.

@@ -238,24 +238,26 @@ class Searching:
     def _hand_over(self, failure: Failure) -> None:
         """Repeats a failure. One that was shrunk to a known one isn't told again, and one that no repetition shows is flaky."""
         __tracebackhide__ = True
+        # Until it is handed over, Ctrl-C hands it over as it is.
+        self._repeating.current = failure
         verdicts: List[Verdict] = []
         is_given = failure.key in self._given
         if not is_given:
             self._failures.add(failure)
             verdicts = self._repeating.again(failure.case, REPETITIONS) if failure.outcome.returned else []
-        self._repeating.current = None
         failed = sum(verdict == failure.verdict for verdict in verdicts)
         if verdicts and not failed:
             self.flaky.append(failure)
         elif not is_given:
             self._give(Smallest(failure, failed, len(verdicts)) if verdicts else Smallest(failure))
+        self._repeating.current = None
 
     def _give(self, found: Smallest) -> None:
         __tracebackhide__ = True
-        self._given.add(found.failure.key)
-        self.found.append(found)
         self.smallest = found
         self.handed(found)
+        self._given.add(found.failure.key)
+        self.found.append(found)
 
     def _shrink_hangs(self) -> None:
         """The hangs, each unless another one explains it by now."""
@@ -278,7 +280,7 @@ class Searching:
     def _give_what_is_left(self) -> None:
         """At an early end: failures that came again but weren't shrunk, or not repeated, are handed over as they are."""
         __tracebackhide__ = True
-        current = self._repeating.current
+        current, self._repeating.current = self._repeating.current, None
         left = [failure for failure in self._failures.hangs if failure is not current and not self._failures.explains(failure)]
         for failure in ([] if current is None else [current]) + left:
             if len(self.found) < self.limits.max_found:
