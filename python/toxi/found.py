@@ -7,8 +7,9 @@ from pathlib import Path
 from typing import Any, Optional, Tuple
 
 from .lines import Link
-from .outcomes import WRONG, Outcome, Verdict
+from .outcomes import UNSETTLED, WRONG, Outcome, Verdict
 from .picks import PickedToxic
+from .shell_client import Status
 
 # Longer answers are shown cut.
 SHOWN = reprlib.Repr()
@@ -80,6 +81,13 @@ class Found:
         return f"<Found: {self.kind} {self.times}; {self.command}>"
 
 
+def why_wrong(outcome: Outcome, verdict: Verdict) -> str:
+    """Why a run is wrong whose answer isn't. Empty where the answer is."""
+    if verdict == UNSETTLED:
+        return "`eventually` stayed false"
+    return "the check refuses the run" if isinstance(outcome.answer, Status) else ""
+
+
 def detail_of(outcome: Outcome, verdict: Verdict, right: Any = None) -> str:
     """What came of a run beside its verdict, for a person: its answer beside a right one, the traceback of its exception, or how it hung. Empty for a
     command's status."""
@@ -89,6 +97,6 @@ def detail_of(outcome: Outcome, verdict: Verdict, right: Any = None) -> str:
     if outcome.error is not None:
         error = outcome.error
         return "".join(traceback.format_exception(type(error), error, error.__traceback__)).rstrip("\n")
-    if isinstance(outcome.answer, int) and verdict is not WRONG:
+    if isinstance(outcome.answer, Status) and verdict is not WRONG:
         return ""
-    return f"answer {SHOWN.repr(outcome.answer)}\nright  {SHOWN.repr(right)}"
+    return why_wrong(outcome, verdict) or f"answer {SHOWN.repr(outcome.answer)}\nright  {SHOWN.repr(right)}"

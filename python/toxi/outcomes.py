@@ -254,6 +254,7 @@ __all__ = [
     "SETTLED_WITHIN",
     "Startable",
     "StartedRun",
+    "UNSETTLED",
     "Verdict",
     "WITHIN",
     "WRONG",

@@ -14,10 +14,9 @@ from .client_command import FOUND, NOTHING, REFUSED, STOPPED, take_signals
 from .errors import ToxiError
 from .fault_points import DELAYS, FAULTS, FaultPoint
 from .kept_sweep import KeptSweep
-from .outcomes import Kind
 from .shell_client import ShellClient, before_of
 from .sweep_table import Sweep
-from .sweeping import MOST, SWEPT, Sweeping, chooser
+from .sweeping import MOST, SWEPT, Sweeping, chooser, progress_text
 from .terminal_line import TerminalLine
 
 ABOUT = """Runs a command behind proxies that end its conversation behind each byte of each stream of each connection, and prints what it came to.
@@ -78,12 +77,6 @@ def sweeping_of(arguments: Namespace) -> Sweeping:
 
 def _only(arguments: Namespace, known: Conversation) -> ChosenPoints:
     return repeated_points(known.streams, arguments.only, arguments.within)
-
-
-def progress_text(sweeping: Sweeping) -> str:
-    """How many runs there were, and of which kinds."""
-    kinds = ", ".join(f"{sweeping.kinds[kind]} {kind.value}" for kind in reversed(Kind) if sweeping.kinds[kind])
-    return f"{sum(sweeping.kinds.values())} of {sweeping.chosen}: {kinds}"
 
 
 def write_files(sweep: Sweep, arguments: Namespace) -> None:

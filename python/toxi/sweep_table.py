@@ -6,6 +6,7 @@ from typing import Dict, List, Optional, Sequence, Tuple, Union
 from .conversations import StreamBytes
 from .fault_points import FaultPoint
 from .lines import printed
+from .outcomes import Kind
 from .sweep_page import page_text
 from .sweep_rows import SweepRow, SweptRun, rows_of
 
@@ -67,11 +68,20 @@ class Sweep:
 
     def __str__(self) -> str:
         slow = self._too_slow
-        named = len(self.links) > 1
-        rows = [f"{printed(row.proxy)} {row.connection} {row}" if named or not row.number else str(row) for row in self.rows if row not in slow]
+        rows = [f"{self._connection(row)}{row}" for row in self.rows if row not in slow]
         runs = sum(row.runs for row in slow)
         told = [f"too slow for a limit of {self.within:g} s in {runs} runs"] if slow and self.within is not None else []
-        return "\n".join([*self.summary, *told, *rows, *self.left_out])
+        return "\n".join([*self.summary, *told, *rows, *self._wrong, *self.left_out])
+
+    @property
+    def _wrong(self) -> List[str]:
+        """A line with the first wrong answer beside the right one."""
+        wrong = [row for row in self.failures if row.first.verdict.kind is Kind.WRONG and row.first.detail]
+        return [f"{self._connection(row)}{row.stream} {row.offset} {row.fault}: answer {row.first.detail}" for row in wrong[:1]]
+
+    def _connection(self, row: SweepRow) -> str:
+        """The proxy and the connection of a row, where there are others."""
+        return f"{printed(row.proxy)} {row.connection} " if len(self.links) > 1 or not row.number else ""
 
     @property
     def _too_slow(self) -> List[SweepRow]:

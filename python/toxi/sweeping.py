@@ -17,6 +17,7 @@ from .batches import BatchRun, ClientSetup
 from .chosen_points import ChosenPoints, chosen_points
 from .conversations import StreamBytes
 from .fault_points import DELAYS, ENDINGS, FaultPoint
+from .found import why_wrong
 from .lines import printed
 from .outcomes import WITHIN, Allowed, Check, Client, Kind, Outcome, Startable, Verdict
 from .sweep_rows import SweptRun
@@ -31,6 +32,7 @@ MOST = 2000
 MORE_RUNS = 3
 # Characters of an exception's text.
 MAX_DETAIL = 200
+INTERRUPTED = "it was interrupted"
 EARLY = {
     "budget": "the budget was used up",
     "client_stuck": "clients didn't return when their links were broken",
@@ -75,18 +77,10 @@ def sweep_faults(
     if most < 1 or jobs < 1:
         raise ValueError(f"a sweep has at least one run and one job, not most={most!r} and jobs={jobs!r}")
     search = Search(upstreams, client, check, allowed, within, before, seed, jobs, program, workers)  # type: ignore[arg-type]
-    return search.sweep(faults=faults, most=most, every_silence=every_silence, connect_timeout=connect_timeout)
-
-
-def sweep_setup(
-    setup: ClientSetup, judge_maker: MakeJudge, faults: Sequence[str], most: int, every_silence: bool, seed: int, budget: Optional[float] = None
-) -> Sweep:
-    """The sweep of any client."""
-    __tracebackhide__ = True
-    choose = chooser(faults, most, every_silence, setup.within, seed)
-    sweeping = Sweeping(setup, choose, judge_maker, budget=budget, most=most, measures=any(fault in DELAYS for fault in faults), every_silence=every_silence)
-    sweeping.run()
-    return sweeping.sweep
+    sweep = search.sweep(faults=faults, most=most, every_silence=every_silence, connect_timeout=connect_timeout)
+    if sweep.ended == INTERRUPTED:
+        raise KeyboardInterrupt
+    return sweep
 
 
 def chooser(faults: Sequence[str], most: int, every_silence: bool, within: float, seed: int, connections: Optional[int] = None) -> Choose:
@@ -131,7 +125,7 @@ class Sweeping:
         self._more = self._beyond = 0
         self._swept: Dict[FaultPoint, SweptRun] = {}
         self._verdicts: Dict[FaultPoint, Verdict] = {}
-        self._ended: Optional[str] = "it was interrupted"
+        self._ended: Optional[str] = INTERRUPTED
         # How many runs came to each kind so far, whether their points were reached or not.
         self.kinds: "Counter[Kind]" = Counter()
 
@@ -245,6 +239,12 @@ class Sweeping:
         return verdicts
 
 
+def progress_text(sweeping: Sweeping) -> str:
+    """How many runs there were, and of which kinds."""
+    kinds = ", ".join(f"{sweeping.kinds[kind]} {kind.value}" for kind in reversed(Kind) if sweeping.kinds[kind])
+    return f"{sum(sweeping.kinds.values())} of {sweeping.chosen}: {kinds}"
+
+
 def _frayed(swept: Iterable[SweptRun]) -> List[FaultPoint]:
     """The points whose outcome differs from that of both neighbours, which have the same."""
     ordered = in_order(swept, ENDINGS)
@@ -276,5 +276,5 @@ def is_reached(point: FaultPoint, stream: Optional[StreamBytes]) -> bool:
 def _detail(outcome: Outcome, verdict: Verdict, right: object) -> str:
     """What a person sees beside a verdict: a wrong answer and the right one, or an exception's text."""
     if verdict.kind is Kind.WRONG:
-        return f"{reprlib.repr(outcome.answer)}, right {reprlib.repr(right)}"
+        return why_wrong(outcome, verdict) or f"{reprlib.repr(outcome.answer)}, right {reprlib.repr(right)}"
     return "" if outcome.error is None else printed(textwrap.shorten(str(outcome.error), MAX_DETAIL, placeholder=".."))

@@ -236,6 +236,24 @@ class JudgedTests(Searching):
         (found,) = never.find(max_found=1, faults=["closed"], folder=Path(self.folder, "never")).found
         self.assertEqual(found.kind, "not settled")
 
+    def test_what_is_wrong_is_told(self):
+        sweep = Search(self.shop, clients.cut_body, within=WITHIN).sweep(faults=("closed",), connections=1, max_found=50)
+        self.assertIn("\ndownstream 2 closed: answer b'', right b'hello'", str(sweep))
+        refusing = Search(self.shop, clients.cut_body, within=WITHIN, eventually=lambda run: not run.rules, settle=0.0)
+        self.assertEqual({row.first.detail for row in refusing.sweep(faults=("closed",)).failures if row.outcome == "not settled"}, {"`eventually` stayed false"})
+
+    def test_what_was_found_before_a_check_raises_is_told(self):
+        folder = Path(self.folder, "broken")
+
+        def breaks(answer):
+            if Path(folder, "again.sh").exists():
+                raise RuntimeError("no space left")
+            return answer == b"hello"
+
+        with self.assertWarnsRegex(ToxiWarning, f"RuntimeError has ended the search, which had found\nwrong answer: sh {folder}/again.sh"):
+            with self.assertRaisesRegex(RuntimeError, "no space left"):
+                Search(self.shop, two_bugs, breaks, within=WITHIN).find(folder=folder)
+
     def test_presets(self):
         with self.assertRaisesRegex(ValueError, "no preset 'ftp' of `allowed`; there are http, redis, postgres, any"):
             Search(self.shop, clients.whole, allowed="ftp").find()

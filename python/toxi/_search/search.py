@@ -1,4 +1,5 @@
 """`Search`: a client and its services, to be searched for faults, swept, or run again."""
+import contextlib
 import functools
 import os
 import warnings
@@ -10,14 +11,14 @@ from ..base import StrPath
 from ..batches import ClientSetup
 from ..client_source import FunctionSource
 from ..errors import ToxiWarning
-from ..fault_points import FAULTS
+from ..fault_points import DELAYS, FAULTS
 from ..outcomes import SETTLED_WITHIN, WITHIN, Allowed, Check, Client, Eventually, Startable, judge_of
 from ..sweep_table import Sweep
 from .drawing import DrawnFaults
 from .engine import Engine
 from .isolated import Isolated
 from .presets import allowed_classes
-from .progress import python_progress
+from .progress import python_line, python_progress
 from .result import SearchResult
 from .searching import SearchLimits, Watch
 
@@ -94,15 +95,26 @@ class Search:
         faults: Sequence[str] = FAULTS,
         most: int = 2000,
         every_silence: bool = False,
+        connections: Optional[int] = None,
         connect_timeout: Optional[int] = None,
         budget: Optional[float] = None,
+        max_found: Optional[int] = None,
     ) -> Sweep:
-        """Ends the conversation behind each byte of each stream of each connection, and returns the table of what came out. `sweep_faults` has the options."""
+        """Ends the conversation behind each byte of each stream of each connection, and returns the table of what came out. `sweep_faults` has the options.
+
+        `connections` sweeps the first so many of each proxy alone. `budget`, in seconds, and `max_found`, points that fail, end it before.
+        """
         __tracebackhide__ = True
-        from ..sweeping import sweep_setup
+        from ..sweeping import Sweeping, chooser, progress_text
 
         judge = functools.partial(judge_of, check=self.check, allowed=self._allowed, eventually=self.eventually, settle=self.settle)
-        return sweep_setup(self._setup(connect_timeout), judge, faults, most, every_silence, self.seed, budget)
+        choose = chooser(faults, most, every_silence, self.within, self.seed, connections)
+        measures = any(fault in DELAYS for fault in faults)
+        sweeping = Sweeping(self._setup(connect_timeout), choose, judge, True, budget, max_found, most, measures, every_silence)
+        # What it has then is its table, which says why it ended.
+        with python_line(progress_text) as shown, contextlib.suppress(KeyboardInterrupt):
+            sweeping.run(shown)
+        return sweeping.sweep
 
     def rerun(self, folder: StrPath, *, times: int = 1) -> None:
         """Runs the client without a fault, and then `times` times under the script and the seed of a folder. Raises `AssertionError` where it isn't right."""
