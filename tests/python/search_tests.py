@@ -9,7 +9,7 @@ from pathlib import Path
 
 import clients
 from find_tests import WITHIN, Searching
-from toxi import LimitData, Rule, Search, ToxiError, ToxiWarning, find_fault, script_text
+from toxi import LimitData, Rule, Search, Toxi, ToxiError, ToxiWarning, find_fault, script_text
 from toxi._search.conversation import Conversation
 from toxi._search.holding import held_seconds
 from toxi._search.phases import boundary_cases
@@ -205,6 +205,25 @@ class RunsTests(Searching):
         stream = StreamBytes("shop", 1, "downstream", 30, "closed", (10, 20))
         silent = {case.point.offset for case in boundary_cases(Conversation([stream]), WITHIN) if case.point.fault == "silent"}
         self.assertLessEqual({0, 1, 9, 10, 11, 29, 30}, silent)
+
+
+    def test_processor_time_of_a_run(self):
+        # Measured 2.4 on a busy machine, with the service in this process. What costs as much as a start of `serve` or a draw of 20 ms for each run is seen.
+        self.assertLess(min(self.cost_of_a_search() for _ in range(3)), 5 * min(self.cost_of_a_connection() for _ in range(3)))
+
+    def cost_of_a_search(self):
+        begun = time.process_time()
+        result = Search(self.shop, clients.correct, within=WITHIN).find(runs=150, faults=["closed"])
+        result.require_none()
+        return (time.process_time() - begun) / result.runs
+
+    def cost_of_a_connection(self):
+        with Toxi(self.shop) as toxi:
+            addresses = {"shop": toxi.address("shop")}
+            begun = time.process_time()
+            for _ in range(200):
+                clients.correct(addresses)
+            return (time.process_time() - begun) / 200
 
 
 class JudgedTests(Searching):

@@ -135,10 +135,11 @@ class BatchToxi(Unchecked):
             late = process.writes
             status = process.stop()
             raise self._late() if late else self._error(status)
-        self._addresses = run.listening()
 
     def _listens(self) -> bool:
-        return len(self._run.lines) >= self._expected and len(self._run.listening()) >= self._expected
+        if len(self._run.lines) >= self._expected:
+            self._addresses = self._run.listening()
+        return len(self._addresses) >= self._expected
 
     def links(self, proxy: Optional[str] = None) -> List[Link]:
         """The links that have ended so far."""
