@@ -1,8 +1,9 @@
 //! The topics of `help` that are neither commands nor faults.
+use crate::faults::FaultForm;
 use crate::help;
 
 /// A text of help.
-#[derive(Clone, Copy, Debug, PartialEq, Eq)]
+#[derive(Clone, Copy, Debug)]
 pub enum HelpText {
     /// This text.
     One(&'static str),
@@ -10,6 +11,8 @@ pub enum HelpText {
     Toxics,
     /// The lines of all faults.
     Faults,
+    /// The line of a fault.
+    Fault(&'static FaultForm),
 }
 
 /// A topic of `help`.

@@ -44,6 +44,6 @@ fn command_help(alloc: Global, name: &str) -> Error {
 fn text_of(topic: &str) -> Option<HelpText> {
     match Topic::of_name(topic) {
         Some(topic) => Some(topic.text()),
-        None => fault_of(topic).map(HelpText::One),
+        None => fault_of(topic).map(HelpText::Fault),
     }
 }

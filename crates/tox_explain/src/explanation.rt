@@ -1,7 +1,6 @@
 //! An explanation of a fault.
 use crate::fault_line::FaultLine;
 use crate::files::explain_name;
-use crate::help_words::words_of;
 use crate::inputs::Inputs;
 use crate::line_fault::explain_line;
 use crate::populate::explain_populate;
@@ -9,6 +8,7 @@ use crate::random_words::explain_words;
 use crate::script::explain_script;
 use crate::short_form::explain_short;
 use std::alloc::{AllocError, Global};
+use tox_arguments::fault_of;
 
 /// What an explanation has still to say.
 #[derive(Clone, Copy, PartialEq, Eq)]
@@ -23,8 +23,9 @@ pub fn explain(alloc: Global, fault: &str, inputs: &Inputs<'_>) -> Result<String
     let fault = FaultLine::of(fault);
     let mut text = String::new(alloc);
     if add_place(&mut text, alloc, &fault, inputs)? == Rest::Words {
-        if let Some(words) = words_of(fault.code) {
-            write!(text, "  {words}\n")?;
+        if let Some(form) = fault_of(fault.code) {
+            let (means, advice) = (form.means, form.advice);
+            write!(text, "  {means}; {advice}\n")?;
         }
     }
     Ok(text)

@@ -1,11 +1,5 @@
 //! The words of the program's help that an explanation takes over.
-use tox_arguments::{SCRIPTS_HELP, fault_of};
-
-/// What a code means and what to do, as `toxi help CODE` has it.
-pub(crate) fn words_of(code: &str) -> Option<&'static str> {
-    let (_, words) = fault_of(code)?.split_once(": ")?;
-    Some(words)
-}
+use tox_arguments::SCRIPTS_HELP;
 
 /// What a field of a script is, as `toxi help scripts` has it.
 pub(crate) fn field_words(field: &str) -> Option<&'static str> {

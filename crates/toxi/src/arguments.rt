@@ -3,7 +3,7 @@ use std::alloc::{AllocError, Global};
 use std::io;
 use thiserror::Error;
 use tox_arguments::{
-    Argument, COMMANDS, CommandForm, FAULTS, HelpText, PROGRAM, Topic, ToxicsHelp, VERSION,
+    Argument, COMMANDS, CommandForm, FAULTS, FaultForm, HelpText, PROGRAM, Topic, ToxicsHelp, VERSION,
     ValueKind,
 };
 use tox_defs::{Attribute, Toxic};
@@ -39,7 +39,10 @@ pub fn arguments<R: Print + AllocGlobal>(rt: &R) -> Result<(), ArgumentsFault> {
     for topic in Topic::EACH {
         write_topic(rt, topic)?;
     }
-    write_faults(rt)
+    for fault in FAULTS {
+        write_fault(rt, fault)?;
+    }
+    Ok(())
 }
 
 /// Writes the line of the program, and those of its options.
@@ -161,7 +164,7 @@ fn write_topic<R: Print + AllocGlobal>(rt: &R, topic: Topic) -> Result<(), Argum
             let text = format!(in rt.alloc(); "{}", ToxicsHelp)?;
             write_text(rt, topic, text.as_str())
         }
-        HelpText::Faults => write_text(rt, topic, ""),
+        HelpText::Faults | HelpText::Fault(_) => write_text(rt, topic, ""),
     }
 }
 
@@ -174,24 +177,13 @@ fn write_text<R: Print>(rt: &R, topic: Topic, text: &str) -> Result<(), Argument
     write(rt, "topic", &fields)
 }
 
-fn write_faults<R: Print + AllocGlobal>(rt: &R) -> Result<(), ArgumentsFault> {
-    for group in FAULTS {
-        for line in group.lines() {
-            write_fault(rt, line)?;
-        }
-    }
-    Ok(())
-}
-
-/// Writes a fault: its code, its name, and the line that has both and tells what it means.
-fn write_fault<R: Print + AllocGlobal>(rt: &R, line: &str) -> Result<(), ArgumentsFault> {
-    let (code, others) = line.split_once(' ').unwrap_or((line, ""));
-    let (head, _) = others.split_once(':').unwrap_or((others, ""));
-    let (name, _) = head.split_once(' ').unwrap_or((head, ""));
+/// Writes the line of a fault: its code, its name, and the line of help that has both and tells what it means.
+fn write_fault<R: Print + AllocGlobal>(rt: &R, fault: &FaultForm) -> Result<(), ArgumentsFault> {
+    let line = format!(in rt.alloc(); "{fault}")?;
     let fields = [
-        JsonField::text("code", code),
-        JsonField::text("name", name),
-        JsonField::text("line", line),
+        JsonField::text("code", fault.code),
+        JsonField::text("name", fault.name),
+        JsonField::text("line", line.as_str()),
     ];
     write(rt, "fault", &fields)
 }

@@ -11,6 +11,7 @@ pub fn help<R: Print>(rt: &R, text: HelpText) -> Result<(), WriteFault> {
         HelpText::One(text) => println!(rt; "{text}"),
         HelpText::Toxics => println!(rt; "{}", ToxicsHelp),
         HelpText::Faults => print_faults(rt),
+        HelpText::Fault(fault) => println!(rt; "{fault}"),
     };
     match printed {
         Err(error) if !lacks_reader(&error) => Err(WriteFault),
@@ -20,8 +21,8 @@ pub fn help<R: Print>(rt: &R, text: HelpText) -> Result<(), WriteFault> {
 
 /// Prints the lines of all faults.
 fn print_faults<R: Print>(rt: &R) -> io::Result<()> {
-    for faults in FAULTS {
-        println!(rt; "{faults}")?;
+    for fault in FAULTS {
+        println!(rt; "{fault}")?;
     }
     Ok(())
 }
