@@ -8,8 +8,8 @@ use std::alloc::Global;
 use std::io;
 use std::process::ExitCode;
 use std::rt::Files;
-use thiserror::Error;
-use tox_proxy::{CheckFault, CheckRequest, ForecastRequest, NamedFiles, PickFault, PickRequest};
+use tox_explain::Failure;
+use tox_proxy::{CheckRequest, ForecastRequest, NamedFiles, PickRequest};
 use tox_time::{Real, Sink};
 
 /// A question about the two files.
@@ -18,15 +18,6 @@ pub enum FilesQuestion<'a> {
     Check(&'a CheckRequest<'a>),
     Pick(&'a PickRequest<'a>),
     Forecast(&'a ForecastRequest<'a>),
-}
-
-/// Why a question isn't answered, or a check found something.
-#[derive(Clone, Copy, Debug, Error)]
-enum QuestionFault<'a> {
-    #[error("{0}")]
-    Check(CheckFault<'a>),
-    #[error("{0}")]
-    Pick(PickFault<'a>),
 }
 
 /// Reads the files and prints the answer. Returns the status of the program.
@@ -40,12 +31,12 @@ pub fn answer_files<R: Files + Print + Eprint + AllocGlobal>(
     let files = KeptFiles::new(rt, rt.alloc(), explaining);
     match question.answer(&files, rt.alloc(), &mut writer) {
         Ok(()) => ExitCode::SUCCESS,
-        Err(fault) => fail_files(
+        Err(failure) => fail_files(
             rt,
             explaining,
             &question.names(),
             &files.into_read(),
-            &fault,
+            failure,
         ),
     }
 }
@@ -70,19 +61,19 @@ impl<'a> FilesQuestion<'a> {
         files: &F,
         alloc: Global,
         writer: &mut W,
-    ) -> Result<(), QuestionFault<'a>>
+    ) -> Result<(), Failure<'a>>
         requires { W.failed writer.old ≡ false }
     {
         match self {
             FilesQuestion::Check(check) => check
                 .answer(files, alloc, writer)
-                .map_err(|fault| QuestionFault::Check(fault)),
+                .map_err(|fault| Failure::from(fault)),
             FilesQuestion::Pick(pick) => pick
                 .answer(files, alloc, writer)
-                .map_err(|fault| QuestionFault::Pick(fault)),
+                .map_err(|fault| Failure::from(fault)),
             FilesQuestion::Forecast(forecast) => forecast
                 .answer(files, alloc, writer)
-                .map_err(|fault| QuestionFault::Pick(fault)),
+                .map_err(|fault| Failure::from(fault)),
         }
     }
 }
