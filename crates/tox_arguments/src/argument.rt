@@ -98,6 +98,14 @@ impl Argument {
         }
     }
 
+    /// The least and the most that a number may be. None: its values are no numbers.
+    pub fn range(&self) -> Option<(u64, u64)> {
+        match self.reads {
+            ValueParser::Unsigned(least, most) => Some((least, most)),
+            _ => None,
+        }
+    }
+
     /// The argument as `clap` has it.
     pub(crate) fn arg<'a>(&self, alloc: Global) -> Result<Arg<'a>, AllocError> {
         let arg = Arg::new(alloc, self.name)

@@ -1,6 +1,7 @@
 //! The topics of `help` that are neither commands nor faults.
 use crate::faults::FaultForm;
 use crate::help;
+use tox_defs::Toxic;
 
 /// A text of help.
 #[derive(Clone, Copy, Debug)]
@@ -11,6 +12,8 @@ pub enum HelpText {
     Toxics,
     /// The lines of all faults.
     Faults,
+    /// A type of toxics with its attributes.
+    Toxic(Toxic),
     /// The line of a fault.
     Fault(&'static FaultForm),
 }

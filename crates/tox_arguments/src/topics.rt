@@ -8,6 +8,7 @@ use crate::topic::{HelpText, Topic};
 use crate::value_kind::ValueKind;
 use clap::{ArgMatches, Error};
 use std::alloc::Global;
+use tox_defs::Toxic;
 
 pub(crate) const HELP: CommandForm = CommandForm {
     name: "help",
@@ -17,7 +18,7 @@ pub(crate) const HELP: CommandForm = CommandForm {
         name: "topic",
         value: "TOPIC",
         kind: ValueKind::Topic,
-        help: "A command, toxics, scripts, faults, or the code of a fault",
+        help: "A command, toxics, scripts, faults, the type of a toxic, or the code of a fault",
         ..PLACE
     }],
 };
@@ -42,8 +43,11 @@ fn command_help(alloc: Global, name: &str) -> Error {
 
 /// The text of a topic that is no command.
 fn text_of(topic: &str) -> Option<HelpText> {
-    match Topic::of_name(topic) {
-        Some(topic) => Some(topic.text()),
+    if let Some(topic) = Topic::of_name(topic) {
+        return Some(topic.text());
+    }
+    match Toxic::of_name(topic) {
+        Some(toxic) => Some(HelpText::Toxic(toxic)),
         None => fault_of(topic).map(HelpText::Fault),
     }
 }

@@ -6,6 +6,7 @@
 
 mod address;
 mod bad_form;
+mod command_line;
 mod double_name;
 mod explanation;
 mod failure;
@@ -17,6 +18,7 @@ mod json_slip;
 mod line_fault;
 mod listening;
 mod meant_form;
+mod number_option;
 mod populate;
 mod quoted;
 mod random_words;
@@ -28,9 +30,11 @@ mod short_form;
 mod text_place;
 mod toxic_attributes;
 mod toxic_value;
+mod toxiproxy;
 mod unit;
 mod unknown_name;
 
+pub use command_line::advise;
 pub use explanation::explain;
 pub use failure::{Failure, FolderRefusal};
 pub use inputs::{Inputs, NamedText};

@@ -22,7 +22,8 @@ pub(crate) fn meant_value(
     Ok(meant_in(unit, lower.as_str()))
 }
 
-fn meant_in(unit: KeyUnit, text: &str) -> Option<u64> {
+/// The whole number of a unit that a text in small letters means.
+pub(crate) fn meant_in(unit: KeyUnit, text: &str) -> Option<u64> {
     let end = text
         .find(|letter: char| !letter.is_ascii_digit() && letter != '.')
         .unwrap_or(text.len());

@@ -3,8 +3,8 @@ use std::alloc::{AllocError, Global};
 use std::io;
 use thiserror::Error;
 use tox_arguments::{
-    Argument, COMMANDS, CommandForm, FAULTS, FaultForm, HelpText, PROGRAM, Topic, ToxicsHelp, VERSION,
-    ValueKind,
+    Argument, COMMANDS, CommandForm, FAULTS, FaultForm, HelpText, PROGRAM, Topic, ToxicsHelp,
+    VERSION, ValueKind,
 };
 use tox_defs::{Attribute, Toxic};
 use tox_explain::TOXICITY;
@@ -164,7 +164,7 @@ fn write_topic<R: Print + AllocGlobal>(rt: &R, topic: Topic) -> Result<(), Argum
             let text = format!(in rt.alloc(); "{}", ToxicsHelp)?;
             write_text(rt, topic, text.as_str())
         }
-        HelpText::Faults | HelpText::Fault(_) => write_text(rt, topic, ""),
+        HelpText::Toxic(_) | HelpText::Faults | HelpText::Fault(_) => write_text(rt, topic, ""),
     }
 }
 

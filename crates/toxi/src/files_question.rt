@@ -4,6 +4,7 @@ ghost use Rattle.std.specs.Prelude.{◌≡◌, false};
 use crate::explaining::Explaining;
 use crate::files_status::{FileNames, fail_files};
 use crate::kept_files::KeptFiles;
+use crate::unknown_toxic::tell_unknown_toxic;
 use std::alloc::Global;
 use std::io;
 use std::process::ExitCode;
@@ -30,7 +31,12 @@ pub fn answer_files<R: Files + Print + Eprint + AllocGlobal>(
     let mut writer = Real::new(io::writer(rt));
     let files = KeptFiles::new(rt, rt.alloc(), explaining);
     match question.answer(&files, rt.alloc(), &mut writer) {
-        Ok(()) => ExitCode::SUCCESS,
+        Ok(()) => {
+            if let FilesQuestion::Forecast(forecast) = question {
+                tell_unknown_toxic(rt, forecast, &files.into_read());
+            }
+            ExitCode::SUCCESS
+        }
         Err(failure) => fail_files(
             rt,
             explaining,

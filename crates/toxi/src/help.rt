@@ -1,7 +1,7 @@
 //! `toxi help`: the text of a topic, on standard output.
 use crate::piped_output::lacks_reader;
 use std::io;
-use tox_arguments::{FAULTS, HelpText, ToxicsHelp};
+use tox_arguments::{FAULTS, HelpText, ToxicHelp, ToxicsHelp};
 use tox_proxy::WriteFault;
 
 /// Prints a text. A reader that leaves has read what it wanted.
@@ -10,6 +10,7 @@ pub fn help<R: Print>(rt: &R, text: HelpText) -> Result<(), WriteFault> {
     let printed = match text {
         HelpText::One(text) => println!(rt; "{text}"),
         HelpText::Toxics => println!(rt; "{}", ToxicsHelp),
+        HelpText::Toxic(toxic) => println!(rt; "{}", ToxicHelp(toxic)),
         HelpText::Faults => print_faults(rt),
         HelpText::Fault(fault) => println!(rt; "{fault}"),
     };

@@ -30,6 +30,7 @@ mod serve;
 mod shutdown;
 mod stages;
 mod status;
+mod unknown_toxic;
 mod wait;
 mod warning_lines;
 mod warnings;
@@ -51,6 +52,7 @@ use std::thread::Threads;
 use std::time::Clock;
 use std::{env, io};
 use tox_arguments::Task;
+use tox_explain::advise;
 use tox_proxy::VisibleName;
 
 /// The status of a command line that is refused.
@@ -79,7 +81,7 @@ fn main(rt: HostRuntime) -> ExitCode {
             let explaining = Explaining::of(&rt, line.explain, terminals.errors);
             perform(&rt, explaining, terminals, &line.task)
         },
-        Err(refusal) => refuse(&rt, &refusal),
+        Err(refusal) => refuse(&rt, &refusal, arguments.as_slice()),
     }
 }
 
@@ -142,12 +144,19 @@ fn fail<F: Display>(rt: &impl Eprint, fault: &F) -> ExitCode {
 }
 
 /// Prints what `clap` answers in place of a task: help, the version, or what is wrong with the command line.
-fn refuse<R: Print + Eprint + AllocGlobal>(rt: &R, refusal: &Error) -> ExitCode {
+fn refuse<R: Print + Eprint + AllocGlobal>(
+    rt: &R,
+    refusal: &Error,
+    arguments: &[String],
+) -> ExitCode {
     if refusal.kind() == ErrorKind::OutOfMemory {
         return fail(rt, &"L0 OutOfMemory");
     }
     if refusal.use_stderr() {
         print_mistake(rt, refusal);
+        if let Ok(advice) = advise(rt.alloc(), arguments, refusal.kind()) {
+            let _ = eprint!(rt; "{advice}");
+        }
         return ExitCode::from(refusal.exit_code() as u8);
     }
     match refusal.print(rt) {
