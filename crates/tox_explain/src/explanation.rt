@@ -54,6 +54,9 @@ fn add_place(
         Failure::UnknownProxy(name) => add_proxies(text, alloc, name, inputs)?,
         Failure::BadStream => add_stream(text, alloc, inputs)?,
         Failure::Wait(WaitFault::BadAddress(address)) => add_address_trouble(text, address)?,
+        Failure::Wait(WaitFault::NotReady(address)) if address.contains('/') => {
+            add_address_trouble(text, address)?;
+        }
         Failure::LogRefused(_, refusal) => add_reason(text, refusal)?,
         Failure::FilesRefused(_, refusal) => add_reason(text, refusal)?,
         _ => {}

@@ -91,12 +91,23 @@ fn slip_at(source: &str, offset: usize) -> Option<&'static str> {
         (':' | '[', letter) if is_bare(letter) => {
             Some("a text without quotes: only numbers, true, false and null have none")
         }
+        ('"', '"' | '{' | '[') if ends_in_name(before) => Some("a colon is missing before it"),
         ('"' | '}' | ']', '"' | '{' | '[') => Some("a comma is missing before it"),
+        ('"', letter) if is_bare(letter) => Some(
+            "a quote is missing before it: what stands in quotes ends there",
+        ),
         (digit, '"' | '{' | '[') if digit.is_ascii_alphanumeric() => {
             Some("a comma is missing before it")
         }
         _ => None,
     }
+}
+
+/// Whether a text in quotes, with which JSON ends, is the name of a member: it stands behind a brace or a comma.
+fn ends_in_name(before: &str) -> bool {
+    let inside = before.strip_suffix('"').unwrap_or(before);
+    let (outside, _) = inside.rsplit_once('"').unwrap_or(("", inside));
+    matches!(outside.trim_end().chars().next_back(), Some('{' | ','))
 }
 
 /// Whether a name or a text without quotes may begin with a sign.

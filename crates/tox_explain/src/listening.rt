@@ -6,7 +6,7 @@ use crate::quoted::Quoted;
 use std::alloc::AllocError;
 use std::io;
 use tox_config::ProxyDef;
-use tox_proxy::ServeFault;
+use tox_proxy::{ServeFault, find_proxy};
 
 /// The system's number for a port that is taken.
 const ADDRESS_IN_USE: i32 = 98;
@@ -19,11 +19,7 @@ pub(crate) fn explain_listening(
 ) -> Result<Rest, AllocError> {
     match fault {
         ServeFault::ListenRefused(name, errno) => {
-            let Some(proxy) = inputs
-                .proxies
-                .iter()
-                .find(|proxy| proxy.name.as_str() == *name)
-            else {
+            let Some(proxy) = find_proxy(inputs.proxies, name) else {
                 return Ok(Rest::Words);
             };
             let listen = proxy.listen.as_str();

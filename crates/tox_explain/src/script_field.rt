@@ -33,12 +33,27 @@ pub(crate) fn add_unknown_key(
         separator = ", ";
     }
     text.push_str("\n")?;
+    if is_attribute(subject) {
+        let key = subject.key;
+        write!(
+            text,
+            "  it is an attribute: write attributes = {{ {key} = .. }}\n"
+        )?;
+    }
     match (near, subject.value()) {
         (Some("rule"), Some(Value::Array(_) | Value::Table(_))) => add_header(text, "rule")?,
         (Some("toxic"), Some(Value::Array(_) | Value::Table(_))) => add_header(text, "toxic")?,
         _ => {}
     }
     Ok(Rest::Nothing)
+}
+
+/// Whether a key of a toxic's table is an attribute of its type.
+fn is_attribute(subject: &Subject<'_>) -> bool {
+    match subject.toxic() {
+        Some(toxic) => toxic.has_attribute(subject.key),
+        None => false,
+    }
 }
 
 /// Adds what a field is to be, and what was meant.
@@ -93,10 +108,12 @@ fn add_meant_value(
     match (key, value) {
         ("rule" | "toxic", Value::Table(_)) => add_header(text, key),
         ("first" | "last" | "version" | "lanes", Value::String(number)) => {
-            match number.trim().parse::<u64>() {
-                Ok(number) => write!(text, "  write {key} = {number}, without quotes\n"),
-                Err(_) => Ok(()),
-            }
+            add_whole(text, key, number.trim(), ", without quotes")
+        }
+        ("first" | "last" | "version" | "lanes", Value::Float(number)) => {
+            let number = format!(in alloc; "{number:?}")?;
+            let whole = number.strip_suffix(".0").unwrap_or("");
+            add_whole(text, key, whole, "")
         }
         ("stream", Value::String(stream)) => match meant_stream(alloc, stream)? {
             Some(stream) => write!(text, "  write stream = \"{stream}\"\n"),
@@ -106,6 +123,14 @@ fn add_meant_value(
             write!(text, "  write {key} = \"{number}\", in quotes\n")
         }
         _ => Ok(()),
+    }
+}
+
+/// Adds a whole number to write, if a text is one.
+fn add_whole(text: &mut String, key: &str, number: &str, how: &str) -> Result<(), AllocError> {
+    match number.parse::<u64>() {
+        Ok(number) => write!(text, "  write {key} = {number}{how}\n"),
+        Err(_) => Ok(()),
     }
 }
 

@@ -52,6 +52,8 @@ pub fn read_opened<'a, R: Source>(
     name: &'a str,
 ) -> Result<Vec<u8>, FileFault<'a>>
     requires { R.failed reader.old ≡ false }
+    ensures file { IfOk result (λ bytes. IsFileOf None bytes.items) }
+    ensures named { IfErr result (IsFileFault None name.now) }
     ensures ok { IfOk result
         (λ bytes. ReadsWhole (R.remaining reader.old) (R.remaining reader.new) bytes.items) }
     ensures fault { IfErr result

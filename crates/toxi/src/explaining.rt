@@ -44,7 +44,7 @@ impl Explaining {
     }
 
     /// Prints the lines below a fault's. What can't be printed is left out: the fault itself was reported.
-    pub fn explain<R: Eprint + AllocGlobal>(
+    fn explain<R: Eprint + AllocGlobal>(
         self,
         rt: &R,
         failure: &Failure<'_>,
