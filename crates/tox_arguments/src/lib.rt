@@ -2,6 +2,7 @@
 #![tactic(auto)]
 
 mod argument;
+mod argument_help;
 mod arguments;
 mod check;
 mod command;
@@ -17,6 +18,7 @@ mod replay;
 mod report;
 mod serve;
 mod table;
+mod takes;
 mod topic;
 mod topics;
 mod toxics_help;
@@ -24,6 +26,7 @@ mod value_kind;
 mod wait;
 
 pub use argument::Argument;
+pub use argument_help::{ArgumentHelp, HelpLines};
 pub use command::CommandForm;
 pub use command_line::{CommandLine, Task, read};
 pub use commands::{COMMANDS, PROGRAM, VERSION};
@@ -33,6 +36,7 @@ pub use link::{DrawArguments, LinkArguments};
 pub use replay::{NAMES_ON_INPUT, ReplayArguments, ReplayMode};
 pub use report::ReportArguments;
 pub use serve::{InlineArguments, ServeArguments, ServeSource};
+pub use takes::{Absent, NumberRange, ShownNumber, Takes};
 pub use topic::{HelpText, Topic};
 pub use toxics_help::{ToxicHelp, ToxicsHelp};
 pub use value_kind::ValueKind;

@@ -19,7 +19,7 @@ pub(crate) const PICK: CommandForm = CommandForm {
         PROXY,
         Argument {
             name: "conn",
-            help: "The number of the connection, 1 to 1000000",
+            help: "The number of the connection",
             needed: true,
             ..CONNECTIONS
         },

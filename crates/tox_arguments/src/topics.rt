@@ -1,5 +1,6 @@
 //! The command `help`: of a command, of toxics, scripts and faults, and of a fault by its code.
 use crate::argument::{Argument, PLACE};
+use crate::argument_help::HelpLines;
 use crate::command::CommandForm;
 use crate::command_line::{Task, incomplete, matches_of};
 use crate::faults::fault_of;
@@ -25,17 +26,21 @@ pub(crate) const HELP: CommandForm = CommandForm {
 
 /// The task of `help`: a text, or `clap`'s own help, which is an error. `toxi help` alone prints the
 /// program's help.
-pub(crate) fn help_task<'a>(alloc: Global, given: &ArgMatches<'a>) -> Result<Task<'a>, Error> {
+pub(crate) fn help_task<'a>(
+    alloc: Global,
+    given: &ArgMatches<'a>,
+    lines: &HelpLines,
+) -> Result<Task<'a>, Error> {
     let topic = given.get_str("topic").unwrap_or("--help");
     match text_of(topic) {
         Some(text) => Ok(Task::Help(text)),
-        None => Err(command_help(alloc, topic)),
+        None => Err(command_help(alloc, topic, lines)),
     }
 }
 
 /// What `clap` answers a command line that asks for the help of a command.
-fn command_help(alloc: Global, name: &str) -> Error {
-    match matches_of(alloc, &["toxi", name, "--help"]).err() {
+fn command_help(alloc: Global, name: &str, lines: &HelpLines) -> Error {
+    match matches_of(alloc, &["toxi", name, "--help"], lines).err() {
         Some(help) => help,
         None => incomplete(alloc),
     }

@@ -3,7 +3,7 @@ use crate::command_line::takes;
 use crate::toxic_value::meant_in;
 use crate::unit::KeyUnit;
 use std::alloc::{AllocError, Global};
-use tox_arguments::{Argument, CommandForm};
+use tox_arguments::{Argument, ArgumentHelp, CommandForm, NumberRange, Takes};
 use tox_defs::Unit;
 
 /// Adds what an option takes, and what to write, if its value is no number in its range.
@@ -14,22 +14,22 @@ pub(crate) fn add_number_advice(
     argument: &Argument,
     value: &str,
 ) -> Result<(), AllocError> {
-    let Some((least, most)) = argument.range() else {
+    let Takes::Number(range) = argument.takes else {
         return Ok(());
     };
-    if is_within(value.parse().ok(), least, most) {
+    if is_within(value.parse().ok(), &range) {
         return Ok(());
     }
-    let (name, shown, help) = (argument.name, argument.value, argument.help);
-    write!(text, "  --{name} {shown}: {help}\n")?;
+    let (name, shown) = (argument.name, argument.value);
+    write!(text, "  --{name} {shown}: {}\n", ArgumentHelp(argument))?;
     let lower = value.trim().to_lowercase(alloc)?;
-    let meant = meant_number(argument, lower.as_str());
+    let meant = meant_number(&range, lower.as_str());
     match meant {
-        Some(number) if is_within(meant, least, most) => {
+        Some(number) if is_within(meant, &range) => {
             write!(text, "  write --{name} {number}\n")?;
         }
         _ => {
-            let example = least.max(1);
+            let example = range.least.max(1);
             write!(text, "  write a whole number, as --{name} {example}")?;
             if name == "seed" && takes(form, "any-seed") {
                 text.push_str("; --any-seed draws one")?;
@@ -40,18 +40,18 @@ pub(crate) fn add_number_advice(
     Ok(())
 }
 
-fn is_within(number: Option<u64>, least: u64, most: u64) -> bool {
+fn is_within(number: Option<u64>, range: &NumberRange) -> bool {
     match number {
-        Some(number) => least <= number && number <= most,
+        Some(number) => range.least <= number && number <= range.most,
         None => false,
     }
 }
 
 /// The number that a value with a unit means.
-fn meant_number(argument: &Argument, value: &str) -> Option<u64> {
-    let unit = match argument.value {
-        "MS" => Unit::Milliseconds,
-        _ if argument.name == "log-bytes" => Unit::Bytes,
+fn meant_number(range: &NumberRange, value: &str) -> Option<u64> {
+    let unit = match range.unit {
+        "milliseconds" => Unit::Milliseconds,
+        "bytes" => Unit::Bytes,
         _ => return None,
     };
     meant_in(KeyUnit::Attribute(unit), value)

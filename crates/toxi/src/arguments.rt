@@ -3,8 +3,8 @@ use std::alloc::{AllocError, Global};
 use std::io;
 use thiserror::Error;
 use tox_arguments::{
-    Argument, COMMANDS, CommandForm, FAULTS, FaultForm, HelpText, PROGRAM, Topic, ToxicsHelp,
-    VERSION, ValueKind,
+    Argument, ArgumentHelp, COMMANDS, CommandForm, FAULTS, FaultForm, HelpText, PROGRAM, Takes,
+    Topic, ToxicsHelp, VERSION, ValueKind,
 };
 use tox_defs::{Attribute, Toxic};
 use tox_explain::TOXICITY;
@@ -84,6 +84,9 @@ fn write_argument<R: Print + AllocGlobal>(
     argument: &Argument,
 ) -> Result<(), ArgumentsFault> {
     let values = values_of(rt.alloc(), argument)?;
+    let help = format!(in rt.alloc(); "{}", ArgumentHelp(argument))?;
+    let range = range_of(rt.alloc(), argument)?;
+    let default = format!(in rt.alloc(); "{}", argument.absent)?;
     let fields = [
         JsonField::text("command", command),
         JsonField::text("name", argument.name),
@@ -92,12 +95,33 @@ fn write_argument<R: Print + AllocGlobal>(
         JsonField::text("value", argument.value),
         JsonField::text("kind", argument.kind.name()),
         array("values", &values),
-        JsonField::text("help", argument.help),
+        JsonField::text("words", argument.help),
+        JsonField::text("help", help.as_str()),
+        JsonField::text("range", range.as_str()),
+        JsonField::text("unit", unit_of(argument)),
+        JsonField::text("default", default.as_str()),
+        JsonField::text("environment", argument.environment),
         flag("required", argument.needed),
         flag("repeatable", argument.is_repeatable()),
         flag("shared", argument.shared),
     ];
     write(rt, "argument", &fields)
+}
+
+/// The numbers that an option takes. Empty: it takes none.
+fn range_of(alloc: Global, argument: &Argument) -> Result<String, AllocError> {
+    match argument.takes {
+        Takes::Number(range) => format!(in alloc; "{range}"),
+        _ => Ok(String::new(alloc)),
+    }
+}
+
+/// What they count.
+fn unit_of(argument: &Argument) -> &'static str {
+    match argument.takes {
+        Takes::Number(range) => range.unit,
+        _ => "",
+    }
 }
 
 /// The names that a value may be. None: they aren't listed.

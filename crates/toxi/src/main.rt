@@ -51,7 +51,7 @@ use std::sync::Wait;
 use std::thread::Threads;
 use std::time::Clock;
 use std::{env, io};
-use tox_arguments::Task;
+use tox_arguments::{HelpLines, Task};
 use tox_explain::advise;
 use tox_proxy::VisibleName;
 
@@ -72,7 +72,10 @@ fn main(rt: HostRuntime) -> ExitCode {
     let Ok(arguments) = arguments.collect::<Vec<String>>(rt.alloc()) else {
         return fail(&rt, &"L0 OutOfMemory");
     };
-    match tox_arguments::read(rt.alloc(), arguments.as_slice()) {
+    let Ok(lines) = HelpLines::new(rt.alloc()) else {
+        return fail(&rt, &"L0 OutOfMemory");
+    };
+    match tox_arguments::read(rt.alloc(), arguments.as_slice(), &lines) {
         Ok(line) => {
             let terminals = Terminals {
                 output: rt.stdout().is_terminal(),
