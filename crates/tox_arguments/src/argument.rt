@@ -34,7 +34,7 @@ pub struct Argument {
     /// Whether it must be there.
     pub needed: bool,
     /// It must be there unless one of these is. Empty: it may always be absent.
-    pub(crate) unless: &'static [&'static str],
+    pub unless: &'static [&'static str],
     /// It can't stand beside these.
     pub(crate) without: &'static [&'static str],
     /// It can't stand without these.

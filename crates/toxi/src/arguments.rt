@@ -87,6 +87,7 @@ fn write_argument<R: Print + AllocGlobal>(
     let help = format!(in rt.alloc(); "{}", ArgumentHelp(argument))?;
     let range = range_of(rt.alloc(), argument)?;
     let default = format!(in rt.alloc(); "{}", argument.absent)?;
+    let unless = items(rt.alloc(), argument.unless)?;
     let fields = [
         JsonField::text("command", command),
         JsonField::text("name", argument.name),
@@ -102,6 +103,7 @@ fn write_argument<R: Print + AllocGlobal>(
         JsonField::text("default", default.as_str()),
         JsonField::text("environment", argument.environment),
         flag("required", argument.needed),
+        array("unless", &unless),
         flag("repeatable", argument.is_repeatable()),
         flag("shared", argument.shared),
     ];
@@ -201,12 +203,15 @@ fn write_text<R: Print>(rt: &R, topic: Topic, text: &str) -> Result<(), Argument
     write(rt, "topic", &fields)
 }
 
-/// Writes the line of a fault: its code, its name, and the line of help that has both and tells what it means.
+/// Writes the line of a fault: its parts, and the line of help that has them all.
 fn write_fault<R: Print + AllocGlobal>(rt: &R, fault: &FaultForm) -> Result<(), ArgumentsFault> {
     let line = format!(in rt.alloc(); "{fault}")?;
     let fields = [
         JsonField::text("code", fault.code),
         JsonField::text("name", fault.name),
+        JsonField::text("subject", fault.place),
+        JsonField::text("means", fault.means),
+        JsonField::text("advice", fault.advice),
         JsonField::text("line", line.as_str()),
     ];
     write(rt, "fault", &fields)
