@@ -1,6 +1,7 @@
 //! The topics of `help` that are neither commands nor faults.
 use crate::faults::FaultForm;
 use crate::help;
+use crate::schema::Schema;
 use tox_defs::Toxic;
 
 /// A text of help.
@@ -14,6 +15,8 @@ pub enum HelpText {
     Faults,
     /// A type of toxics with its attributes.
     Toxic(Toxic),
+    /// The schema of a file.
+    Schema(Schema),
     /// The line of a fault.
     Fault(&'static FaultForm),
 }

@@ -1,10 +1,12 @@
 //! The command `help`: of a command, of toxics, scripts and faults, and of a fault by its code.
-use crate::argument::{Argument, PLACE};
+use crate::argument::{Argument, OPTION, PLACE};
 use crate::argument_help::HelpLines;
 use crate::command::CommandForm;
 use crate::command_line::{Task, incomplete, matches_of};
 use crate::faults::fault_of;
 use crate::help;
+use crate::schema::Schema;
+use crate::takes::Takes;
 use crate::topic::{HelpText, Topic};
 use crate::value_kind::ValueKind;
 use clap::{ArgMatches, Error};
@@ -15,13 +17,23 @@ pub(crate) const HELP: CommandForm = CommandForm {
     name: "help",
     about: "Prints the help of a command, of toxics, scripts or faults, or of a fault by its code",
     examples: help::HELP,
-    arguments: &[Argument {
-        name: "topic",
-        value: "TOPIC",
-        kind: ValueKind::Topic,
-        help: "A command, toxics, scripts, faults, the type of a toxic, or the code of a fault",
-        ..PLACE
-    }],
+    arguments: &[
+        Argument {
+            name: "topic",
+            value: "TOPIC",
+            kind: ValueKind::Topic,
+            help: "A command, toxics, scripts, faults, the type of a toxic, or the code of a fault",
+            ..PLACE
+        },
+        Argument {
+            name: "schema",
+            value: "FILE",
+            help: "Prints the JSON Schema of the populate file or of the script",
+            takes: Takes::Names(Schema::NAMES),
+            without: &["topic"],
+            ..OPTION
+        },
+    ],
 };
 
 /// The task of `help`: a text, or `clap`'s own help, which is an error. `toxi help` alone prints the
@@ -31,6 +43,9 @@ pub(crate) fn help_task<'a>(
     given: &ArgMatches<'a>,
     lines: &HelpLines,
 ) -> Result<Task<'a>, Error> {
+    if let Some(schema) = given.get_str("schema").and_then(Schema::of_name) {
+        return Ok(Task::Help(HelpText::Schema(schema)));
+    }
     let topic = given.get_str("topic").unwrap_or("--help");
     match text_of(topic) {
         Some(text) => Ok(Task::Help(text)),

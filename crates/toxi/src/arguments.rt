@@ -190,7 +190,8 @@ fn write_topic<R: Print + AllocGlobal>(rt: &R, topic: Topic) -> Result<(), Argum
             let text = format!(in rt.alloc(); "{}", ToxicsHelp)?;
             write_text(rt, topic, text.as_str())
         }
-        HelpText::Toxic(_) | HelpText::Faults | HelpText::Fault(_) => write_text(rt, topic, ""),
+        HelpText::Toxic(_) | HelpText::Faults | HelpText::Schema(_) | HelpText::Fault(_) =>
+            write_text(rt, topic, ""),
     }
 }
 

@@ -12,6 +12,7 @@ pub fn help<R: Print>(rt: &R, text: HelpText) -> Result<(), WriteFault> {
         HelpText::Toxics => println!(rt; "{}", ToxicsHelp),
         HelpText::Toxic(toxic) => println!(rt; "{}", ToxicHelp(toxic)),
         HelpText::Faults => print_faults(rt),
+        HelpText::Schema(schema) => println!(rt; "{schema}"),
         HelpText::Fault(fault) => println!(rt; "{fault}"),
     };
     match printed {
