@@ -44,12 +44,7 @@ impl Explaining {
     }
 
     /// Prints the lines below a fault's. What can't be printed is left out: the fault itself was reported.
-    fn explain<R: Eprint + AllocGlobal>(
-        self,
-        rt: &R,
-        failure: &Failure<'_>,
-        inputs: &Inputs<'_>,
-    ) {
+    fn explain<R: Eprint + AllocGlobal>(self, rt: &R, failure: &Failure<'_>, inputs: &Inputs<'_>) {
         match self {
             Explaining::Nothing => {}
             Explaining::NearName => print_near_name(rt, failure, inputs),
