@@ -228,7 +228,7 @@ def forecast_text(config, script, proxy, links, seed, stream=None, named=None):
     for number, rule in enumerate(rules, 1):
         for toxic, (side, place, _) in enumerate(rule[4] if met[number] else [], 1):
             name = rule[3][side][place][0]
-            lines.append(f"rule {number} toxic {toxic} applied {applied[number, side, place]} of {met[number]} {name}")
+            lines.append(f"rule {number} toxic {toxic} applied {applied[number, side, place]} of {met[number]} {shown(name)}")
     return "".join(line + "\n" for line in lines)
 
 

@@ -131,7 +131,7 @@ def toxic(random, place, version, chance):
         good = TOXICITIES + TOXICITY_TEXTS if version == 2 else TOXICITIES
         lines.append(f"toxicity = {mostly(random, good, NO_TOXICITIES, chance)}")
     if random.random() < 0.8 or place > 1:
-        name = random.choice(("né", "a b", "x" * 61)) + f" {place}"
+        name = random.choice(("né", "a b", "x" * 61, "\x9b31m", "\u202e \xa0")) + f" {place}"
         lines.append(f"name = {quoted(mostly(random, [name], ['né 0', 'x' * 65], chance))}")
     random.shuffle(lines)
     return ["[[rule.toxic]]", *lines]
