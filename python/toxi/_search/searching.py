@@ -15,7 +15,7 @@ from .drawing import DrawnFaults, Drawing, drawn_cases
 from .failures import Failure, FailureKey
 from .known import Known
 from .phases import boundary_cases, late_cases, outage_cases
-from .repeating import REPETITIONS, Repeating
+from .repeating import HANG_SHARE, REPETITIONS, Repeating
 from .running import Cases, Ended, MakeJudge, Over, Runner
 
 # Where no fault does that, one counts that the client fails under at least once more in so many runs.
@@ -102,7 +102,7 @@ class Searching:
         __tracebackhide__ = True
         try:
             self._learn_and_search()
-            return "max_found" if self._is_full else "done"
+            return "max_found" if self._is_full else "done" if len(self.done) == len(PHASES) else "budget"
         except Over as over:
             return over.why
         except KeyboardInterrupt:
@@ -131,12 +131,12 @@ class Searching:
             (PHASES[3], self._drawn),
         ]
         for name, cases in phases:
-            if self._is_full:
+            if self._is_full or self._must_shrink:
                 return
             self._phase = name
             self._take_new()
             self._run(self._queue(cases(self.conversation)))
-            if not self._is_full:
+            if not (self._is_full or self._must_shrink):
                 self.done.append(name)
 
     def _measure(self, conversation: Conversation) -> None:
@@ -185,10 +185,15 @@ class Searching:
         """Whether as many different failures are known as are to be found. Hangs are shrunk at the end."""
         return len(self.found) + len(self._failures.hangs) >= self.limits.max_found
 
+    @property
+    def _must_shrink(self) -> bool:
+        """Whether the rest of the budget is that of the hangs, of which some wait."""
+        return bool(self._failures.hangs) and time.monotonic() >= self.begun + (1 - HANG_SHARE) * self.limits.budget
+
     def _run(self, cases: Cases) -> None:
         """Runs cases, and takes each new failure as soon as its batch has ended, or none other may be found."""
         __tracebackhide__ = True
-        while not self._is_full:
+        while not (self._is_full or self._must_shrink):
             # The runs of one batch.
             ran = next(self.runner.run(cases, self._ended, self._is_wanted), None)
             self._take_new()
@@ -198,12 +203,12 @@ class Searching:
     def _ended(self, run: BatchRun, verdict: Verdict) -> bool:
         """Notes a failure. Returns whether others may be run before it is looked at."""
         if not verdict.is_fault or run.outcome is None:
-            return True
+            return not self._must_shrink
         failure = Failure(run.case, verdict, run.outcome, self.root)
         if failure.is_hang:
             self._failures.note_hang(run.case)
         if not self._failures.is_new(failure):
-            return True
+            return not self._must_shrink
         self._failures.new.append(failure)
         return len(self.found) + len(self._failures.new) < self.limits.max_found
 
