@@ -1,6 +1,6 @@
 """The faults of a search that aren't drawn: at boundaries, late answers, and outages."""
 from dataclasses import replace
-from typing import Iterable, Iterator, List, Sequence, Tuple
+from typing import Callable, Iterable, Iterator, List, Sequence, Tuple
 
 from ..conversations import StreamBytes
 from ..fault_points import ALL, MILLIS, FaultPoint, delay_of
@@ -27,14 +27,19 @@ OUTAGE_BOUNDARIES = 3
 
 
 def boundary_cases(conversation: Conversation, within: float) -> List[Case]:
-    """Each ending at 0, at each boundary, beside it, in the middle and at the end of each stream, and slices. Silence, whose runs take longest, comes last."""
-    found: List[Case] = []
-    for fault in ENDINGS:
-        for stream in _by_number(conversation.streams):
-            found += [Case.of(FaultPoint(*stream.key, fault, offset)) for offset in _offsets(stream)]
-        if fault == "reset":
-            found += list(_sliced(conversation.streams, within))
-    return found
+    """Each ending at 0, at each boundary and at the end of each stream, and slices. Then each ending in the middle of pieces, cuts in the head of the first one, and
+    each ending beside boundaries. So a client that is slow meets each kind of fault soon. Silence, whose runs take longest, comes last of each."""
+    streams = _by_number(conversation.streams)
+    found = _endings(streams, ("closed", "reset"), _chosen)
+    found += _sliced(streams, within)
+    found += _endings(streams, ("silent",), _chosen)
+    found += _endings(streams, ENDINGS, _halves)
+    found += _endings(streams, ("closed",), _heads)
+    return found + _endings(streams, ENDINGS, _beside)
+
+
+def _endings(streams: Sequence[StreamBytes], faults: Sequence[str], places: Callable[[StreamBytes], List[int]]) -> List[Case]:
+    return [Case.of(FaultPoint(*stream.key, fault, offset)) for fault in faults for stream in streams for offset in places(stream)]
 
 
 def _by_number(streams: Sequence[StreamBytes]) -> List[StreamBytes]:
@@ -47,16 +52,26 @@ def _chosen(stream: StreamBytes) -> List[int]:
     return every if len(every) <= MAX_BOUNDARIES else every[: MAX_BOUNDARIES // 2] + every[-MAX_BOUNDARIES // 2 :]
 
 
-def _offsets(stream: StreamBytes) -> List[int]:
-    """0, the boundaries and the end, the middle of each piece between them, and what is beside a boundary."""
+def _halves(stream: StreamBytes) -> List[int]:
+    """The middle of the stream, and that of each piece."""
     at = _chosen(stream)
-    halves = [stream.bytes // 2, *((one + other) // 2 for one, other in zip(at, at[1:]))]
-    beside = [boundary + step for boundary in at for step in (1, -1)]
-    return [offset for offset in dict.fromkeys([*at, *halves, *beside]) if 0 <= offset <= stream.bytes]
+    return list(dict.fromkeys([stream.bytes // 2, *((one + other) // 2 for one, other in zip(at, at[1:]))]))
+
+
+def _heads(stream: StreamBytes) -> List[int]:
+    """A quarter of the first piece, an eighth, and so on: the head of a message ends at an unknown scale."""
+    first = next((boundary for boundary in stream.boundaries if boundary), 0)
+    return [first >> by for by in range(2, first.bit_length())]
+
+
+def _beside(stream: StreamBytes) -> List[int]:
+    """One byte beside each boundary."""
+    beside = [boundary + step for boundary in _chosen(stream) for step in (1, -1)]
+    return [offset for offset in dict.fromkeys(beside) if 0 <= offset <= stream.bytes]
 
 
 def _sliced(streams: Sequence[StreamBytes], within: float) -> Iterator[Case]:
-    for stream in _by_number(streams):
+    for stream in streams:
         largest = max(stream.pieces, default=0)
         for size in sorted({1, largest // 2, largest - 1}):
             if 0 < size < largest:
