@@ -27,14 +27,15 @@ OUTAGE_BOUNDARIES = 3
 
 
 def boundary_cases(conversation: Conversation, within: float) -> List[Case]:
-    """Each ending at 0, at each boundary and at the end of each stream, and slices. Then each ending in the middle of pieces, cuts in the head of the first one, and
-    each ending beside boundaries. So a client that is slow meets each kind of fault soon. Silence, whose runs take longest, comes last of each."""
+    """Each ending at 0, at each boundary and at the end of each stream, cuts in the head of the first piece, and slices. Then each ending in the middle of pieces,
+    and beside boundaries. So a client that is slow meets each kind of fault soon. Silence, whose runs take longest, comes last of each."""
     streams = _by_number(conversation.streams)
-    found = _endings(streams, ("closed", "reset"), _chosen)
+    found = _endings(streams, ("closed",), _chosen)
+    found += _endings(streams, ("closed",), _heads)
+    found += _endings(streams, ("reset",), _chosen)
     found += _sliced(streams, within)
     found += _endings(streams, ("silent",), _chosen)
     found += _endings(streams, ENDINGS, _halves)
-    found += _endings(streams, ("closed",), _heads)
     return found + _endings(streams, ENDINGS, _beside)
 
 
@@ -59,9 +60,9 @@ def _halves(stream: StreamBytes) -> List[int]:
 
 
 def _heads(stream: StreamBytes) -> List[int]:
-    """A quarter of the first piece, an eighth, and so on: the head of a message ends at an unknown scale."""
+    """A half of the first piece, a quarter, and so on: the head of a message ends at an unknown scale."""
     first = next((boundary for boundary in stream.boundaries if boundary), 0)
-    return [first >> by for by in range(2, first.bit_length())]
+    return [first >> by for by in range(1, first.bit_length())]
 
 
 def _beside(stream: StreamBytes) -> List[int]:
