@@ -174,6 +174,7 @@ class Batch:
             self._setup.before()
         held = partial(self._held, number) if run.case.delays else None
         outcome = run_client(client, addresses, self._setup.within, partial(self._end_links, number), held)
+        self._toxi.take_lines()
         with self._changed:
             # Else it was ended from outside, which says nothing of the client.
             counts = outcome.hung or number in self._running

@@ -141,10 +141,14 @@ class BatchToxi(Unchecked):
             self._addresses = self._run.listening()
         return len(self._addresses) >= self._expected
 
-    def links(self, proxy: Optional[str] = None) -> List[Link]:
-        """The links that have ended so far."""
+    def take_lines(self) -> None:
+        """Reads the lines that are there, so that a run with many connections fills no pipe."""
         if self._process is not None:
             self._process.read()
+
+    def links(self, proxy: Optional[str] = None) -> List[Link]:
+        """The links that have ended so far."""
+        self.take_lines()
         return super().links(proxy)
 
     def listening(self) -> Dict[str, Address]:
