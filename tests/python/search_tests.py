@@ -206,6 +206,13 @@ class RunsTests(Searching):
         silent = {case.point.offset for case in boundary_cases(Conversation([stream]), WITHIN) if case.point.fault == "silent"}
         self.assertLessEqual({0, 1, 9, 10, 11, 29, 30}, silent)
 
+    def test_cuts_near_both_ends(self):
+        stream = StreamBytes("shop", 1, "upstream", 1020, "closed", (20, 1000))
+        cut = {case.point.offset for case in boundary_cases(Conversation([stream]), WITHIN) if case.point.fault == "closed"}
+        self.assertLessEqual({2, 5, 10, 520, 770, 895, 958, 989, 1005, 1013, 1017}, cut)
+        empty = StreamBytes("shop", 1, "downstream", 0, "closed")
+        self.assertEqual({case.point.offset for case in boundary_cases(Conversation([empty]), WITHIN)}, {0})
+
 
     def test_processor_time_of_a_run(self):
         # Measured 2.4 on a busy machine, with the service in this process. What costs as much as a start of `serve` or a draw of 20 ms for each run is seen.

@@ -27,11 +27,11 @@ OUTAGE_BOUNDARIES = 3
 
 
 def boundary_cases(conversation: Conversation, within: float) -> List[Case]:
-    """Each ending at 0, at each boundary and at the end of each stream, cuts in the head of the first piece, and slices. Then each ending in the middle of pieces,
-    and beside boundaries. So a client that is slow meets each kind of fault soon. Silence, whose runs take longest, comes last of each."""
+    """Each ending at 0, at each boundary and at the end of each stream, cuts near its start and its end, and slices. Then each ending in the middle of pieces, and
+    beside boundaries. So a client that is slow meets each kind of fault soon. Silence, whose runs take longest, comes last of each."""
     streams = _by_number(conversation.streams)
     found = _endings(streams, ("closed",), _chosen)
-    found += _endings(streams, ("closed",), _heads)
+    found += _endings(streams, ("closed",), _near_ends)
     found += _endings(streams, ("reset",), _chosen)
     found += _sliced(streams, within)
     found += _endings(streams, ("silent",), _chosen)
@@ -59,10 +59,12 @@ def _halves(stream: StreamBytes) -> List[int]:
     return list(dict.fromkeys([stream.bytes // 2, *((one + other) // 2 for one, other in zip(at, at[1:]))]))
 
 
-def _heads(stream: StreamBytes) -> List[int]:
-    """A half of the first piece, a quarter, and so on: the head of a message ends at an unknown scale."""
-    first = next((boundary for boundary in stream.boundaries if boundary), 0)
-    return [first >> by for by in range(1, first.bit_length())]
+def _near_ends(stream: StreamBytes) -> List[int]:
+    """By halves ever nearer to the start of the first piece and to the end of the last one: heads end and last fields begin at an unknown scale."""
+    at = stream.boundaries
+    first, last = (at[1], at[-1] - at[-2]) if len(at) > 1 else (0, 0)
+    tails = [at[-1] - (last >> by) for by in range(1, last.bit_length())]
+    return list(dict.fromkeys([*(first >> by for by in range(1, first.bit_length())), *tails]))
 
 
 def _beside(stream: StreamBytes) -> List[int]:
