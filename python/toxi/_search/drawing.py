@@ -26,7 +26,7 @@ DELAYED_SHARE = 0.1
 # Past the limit by so much a delay is drawn at most.
 PAST_LIMIT = 1.2
 # How often each kind is drawn. Those that end a stream break more clients than delays do, and take less time. Silence and latency have phases of their own.
-KINDS: Tuple[str, ...] = ("limit_data",) * 8 + ("reset_peer",) * 4 + ("latency", "slicer", "timeout", "slow_close", "bandwidth")
+KINDS: Tuple[str, ...] = ("limit_data",) * 12 + ("reset_peer",) * 6 + ("latency", "slicer", "timeout", "slow_close", "bandwidth")
 # A drawn toxic: where, which kind, how its position is chosen, its position and its delay as parts, and whether it is for later connections too.
 Drawn = Tuple[int, ...]
 NUMBERS = 6
