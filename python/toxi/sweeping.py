@@ -77,7 +77,11 @@ def sweep_faults(
     if most < 1 or jobs < 1:
         raise ValueError(f"a sweep has at least one run and one job, not most={most!r} and jobs={jobs!r}")
     search = Search(upstreams, client, check, allowed, within, before, seed, jobs, program, workers)  # type: ignore[arg-type]
-    sweep = search.sweep(faults=faults, most=most, every_silence=every_silence, connect_timeout=connect_timeout)
+    return _whole(search.sweep(faults=faults, most=most, every_silence=every_silence, connect_timeout=connect_timeout))
+
+
+def _whole(sweep: Sweep) -> Sweep:
+    """A sweep that Ctrl-C didn't end. Raises `KeyboardInterrupt` for another."""
     if sweep.ended == INTERRUPTED:
         raise KeyboardInterrupt
     return sweep
