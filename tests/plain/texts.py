@@ -111,7 +111,7 @@ def populate(random, names):
         if random.random() < 0.5:
             members.append(member(random, "enabled", ["true", "false", "null"], ["1"], chance))
         if random.random() < 0.2:
-            members.append('"other": [{"a": [1, -2.5e3, "\\u00e9"]}]')
+            members.append(random.choice(('"other"', '"listn"', '"toxics"', '"\\u009b"')) + ': [{"a": [1, -2.5e3, "\\u00e9"]}]')
         random.shuffle(members)
         objects.append(mostly(random, ["{" + ", ".join(members) + "}"], ["1", "null"], chance))
     pool = [*'[]{}",: \n\\09-e', "null", "true", '"name"', '"listen"', '"x":', "\t", "é", "1e5", "{}"]
