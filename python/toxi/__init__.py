@@ -5,7 +5,7 @@
 
 The manual of toxics and faults is docs/PROFILE.md, that of rules docs/SCRIPTS.md.
 """
-__version__ = "0.8.0"
+__version__ = "0.7.0"
 
 from ._search.client_run import ClientRun, RunLink
 from ._search.result import Flaky, SearchResult, Tried

@@ -18,7 +18,7 @@ use clap::{ArgAction, ArgMatches, Command};
 use std::alloc::{AllocError, Global};
 
 /// The version, and the kit that proves and builds it.
-pub const VERSION: &str = "0.8.0 (rattle-kit-13f logic dac8208d650f15bf)";
+pub const VERSION: &str = "0.7.0 (rattle-kit-13f logic dac8208d650f15bf)";
 
 const EXPLAIN: Argument = Argument {
     name: "explain",
