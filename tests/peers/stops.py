@@ -577,4 +577,4 @@ def is_asleep(process):
     """Whether the program, and not the launcher, sleeps."""
     with open(f"/proc/{process.pid}/stat") as file:
         name, state = re.search(r"\((.*)\) (\w)", file.read()).groups()
-    return name == "toxi" and state == "S"
+    return (name == "toxi" or name.startswith("toxi-")) and state == "S"
