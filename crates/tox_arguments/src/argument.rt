@@ -1,6 +1,6 @@
 //! An argument of a command: a row of the command's table, and how it is given to `clap`.
-use crate::takes::{Absent, Takes};
 use crate::value_kind::ValueKind;
+use clap::builder::ValueParser;
 use clap::{Arg, ArgAction};
 use std::alloc::{AllocError, Global};
 
@@ -16,25 +16,20 @@ pub struct Argument {
     pub value: &'static str,
     /// What a value names.
     pub kind: ValueKind,
-    /// What it is for. The help tells its range and what holds without it behind these words.
     pub help: &'static str,
     /// Of an option of the program: whether each command has it too.
     pub shared: bool,
     /// What a value may be.
-    pub takes: Takes,
-    /// What holds without it.
-    pub absent: Absent,
-    /// The variable of the environment that stands in for it. Empty: none does.
-    pub environment: &'static str,
+    pub(crate) reads: ValueParser<'static>,
     /// The fewest values that one use takes.
-    pub(crate) fewest: usize,
+    pub(crate) least: usize,
     /// The most values that one use takes.
     pub(crate) most: usize,
     pub(crate) action: ArgAction,
     /// Whether it must be there.
     pub needed: bool,
     /// It must be there unless one of these is. Empty: it may always be absent.
-    pub unless: &'static [&'static str],
+    pub(crate) unless: &'static [&'static str],
     /// It can't stand beside these.
     pub(crate) without: &'static [&'static str],
     /// It can't stand without these.
@@ -50,10 +45,8 @@ pub(crate) const OPTION: Argument = Argument {
     kind: ValueKind::Plain,
     help: "",
     shared: false,
-    takes: Takes::Text,
-    absent: Absent::Untold,
-    environment: "",
-    fewest: 1,
+    reads: ValueParser::String,
+    least: 1,
     most: 1,
     action: ArgAction::Set,
     needed: false,
@@ -70,8 +63,8 @@ pub(crate) const OPTIONS: Argument = Argument {
 
 /// An option without a value.
 pub(crate) const FLAG: Argument = Argument {
-    takes: Takes::Nothing,
-    fewest: 0,
+    reads: ValueParser::Bool,
+    least: 0,
     most: 0,
     action: ArgAction::SetTrue,
     ..OPTION
@@ -85,7 +78,7 @@ pub(crate) const PLACE: Argument = Argument {
 
 /// Texts without an option, as many as there are.
 pub(crate) const PLACES: Argument = Argument {
-    fewest: 0,
+    least: 0,
     most: usize::MAX,
     action: ArgAction::Append,
     ..PLACE
@@ -99,19 +92,19 @@ impl Argument {
 
     /// The names that a value may be. Empty: they aren't listed.
     pub fn names(&self) -> &'static [&'static str] {
-        match self.takes {
-            Takes::Names(names) => names,
+        match self.reads {
+            ValueParser::Names(names) => names,
             _ => &[],
         }
     }
 
-    /// The argument as `clap` has it, with this line of help.
-    pub(crate) fn arg<'a>(&self, alloc: Global, help: &'a str) -> Result<Arg<'a>, AllocError> {
+    /// The argument as `clap` has it.
+    pub(crate) fn arg<'a>(&self, alloc: Global) -> Result<Arg<'a>, AllocError> {
         let arg = Arg::new(alloc, self.name)
-            .help(help)
+            .help(self.help)
             .value_name(self.value)
-            .value_parser(self.takes.parser())
-            .num_args(self.fewest..=self.most)
+            .value_parser(self.reads)
+            .num_args(self.least..=self.most)
             .action(self.action)
             .required(self.needed);
         let arg = if self.dashed {

@@ -2,9 +2,9 @@
 ghost use Rattle.std.specs.Prelude.{◌≤◌};
 
 use crate::argument::{Argument, FLAG, OPTION, PLACES};
-use crate::takes::{NumberRange, Takes};
 use crate::value_kind::ValueKind;
 use clap::ArgMatches;
+use clap::builder::ValueParser;
 use std::alloc::{AllocError, Global};
 use tox_words::MAX_CONNECTIONS;
 
@@ -37,12 +37,8 @@ pub(crate) const PROXY: Argument = Argument {
 pub(crate) const SEED: Argument = Argument {
     name: "seed",
     value: "N",
-    help: "What the random words are made from",
-    takes: Takes::Number(NumberRange {
-        least: 0,
-        most: u64::MAX,
-        unit: "",
-    }),
+    help: "What the random words are made from, 0 to 2^64 - 1",
+    reads: ValueParser::Unsigned(0, u64::MAX),
     needed: true,
     ..OPTION
 };
@@ -53,11 +49,7 @@ pub(crate) const MAX_CONNECT_TIMEOUT: u64 = 600_000;
 /// An option with a number of connections.
 pub(crate) const CONNECTIONS: Argument = Argument {
     value: "N",
-    takes: Takes::Number(NumberRange {
-        least: 1,
-        most: MAX_CONNECTIONS,
-        unit: "connections",
-    }),
+    reads: ValueParser::Unsigned(1, MAX_CONNECTIONS),
     ..OPTION
 };
 
@@ -73,7 +65,7 @@ pub(crate) const FILES: Argument = Argument {
     value: "FILE",
     kind: ValueKind::File,
     help: "The logs; - takes their names from standard input, one a line",
-    fewest: 1,
+    least: 1,
     needed: true,
     ..PLACES
 };

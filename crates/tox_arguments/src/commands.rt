@@ -1,6 +1,5 @@
 //! The program's command line, as it is given to `clap`.
 use crate::argument::{Argument, FLAG};
-use crate::argument_help::{CommandLines, HelpLines};
 use crate::check::CHECK;
 use crate::command::CommandForm;
 use crate::forecast::FORECAST;
@@ -23,7 +22,6 @@ pub const VERSION: &str = "0.7.0 (rattle-kit-13f logic dac8208d650f15bf)";
 const EXPLAIN: Argument = Argument {
     name: "explain",
     help: "Explains a fault below its line, which is done on a terminal anyway",
-    environment: "TOXI_EXPLAIN",
     shared: true,
     ..FLAG
 };
@@ -68,46 +66,35 @@ pub(crate) fn explain_of(given: &ArgMatches<'_>) -> bool {
     behind || given.get_flag(EXPLAIN.name)
 }
 
-/// The program's command line, with the lines of help where they may be shown.
-pub(crate) fn toxi<'a>(
-    alloc: Global,
-    lines: Option<&'a HelpLines>,
-) -> Result<Command<'a>, AllocError> {
+/// The program's command line.
+pub(crate) fn toxi<'a>(alloc: Global) -> Result<Command<'a>, AllocError> {
     let mut toxi = PROGRAM
-        .command(alloc, None)?
+        .command(alloc)?
         .bin_name(PROGRAM.name)?
         .version(VERSION)
         .disable_help_flag(true)
         .disable_version_flag(true)
         .disable_help_subcommand(true)
         .subcommand_required(true);
-    for (place, form) in COMMANDS.iter().enumerate() {
-        let lines = lines.and_then(|lines| lines.commands.get(place));
-        toxi = toxi.subcommand(command_of(alloc, form, lines)?)?;
+    for form in COMMANDS {
+        toxi = toxi.subcommand(command_of(alloc, form)?)?;
     }
     Ok(toxi)
 }
 
 /// The program's command line with the hidden command, for words that ask for it. Where a command is missing, `clap` lists the hidden
 /// ones too.
-pub(crate) fn toxi_with_arguments<'a>(
-    alloc: Global,
-    lines: Option<&'a HelpLines>,
-) -> Result<Command<'a>, AllocError> {
-    let arguments = command_of(alloc, &ARGUMENTS, None)?.hide(true);
-    toxi(alloc, lines)?.subcommand(arguments)
+pub(crate) fn toxi_with_arguments<'a>(alloc: Global) -> Result<Command<'a>, AllocError> {
+    let arguments = command_of(alloc, &ARGUMENTS)?.hide(true);
+    toxi(alloc)?.subcommand(arguments)
 }
 
 /// A command with its arguments, and behind them those of the program that each command has.
-fn command_of<'a>(
-    alloc: Global,
-    form: &CommandForm,
-    lines: Option<&'a CommandLines>,
-) -> Result<Command<'a>, AllocError> {
-    let mut command = form.command(alloc, lines)?;
+fn command_of<'a>(alloc: Global, form: &CommandForm) -> Result<Command<'a>, AllocError> {
+    let mut command = form.command(alloc)?;
     for argument in PROGRAM.arguments {
         if argument.shared {
-            command = command.arg(argument.arg(alloc, argument.help)?)?;
+            command = command.arg(argument.arg(alloc)?)?;
         }
     }
     Ok(command)

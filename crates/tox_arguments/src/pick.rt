@@ -19,7 +19,7 @@ pub(crate) const PICK: CommandForm = CommandForm {
         PROXY,
         Argument {
             name: "conn",
-            help: "The number of the connection",
+            help: "The number of the connection, 1 to 1000000",
             needed: true,
             ..CONNECTIONS
         },

@@ -11,8 +11,6 @@ pub mod CoveredBy
 pub mod NeverWarned
 pub mod NamedTrees
 pub mod RuleLines
-pub mod LastColon
-pub mod LinesShared
 pub mod LinesThen
 pub mod NumberedRules
 pub mod ProxyRuns

@@ -5,7 +5,6 @@
 mod addresses;
 mod check;
 mod fault;
-mod file_lines;
 mod forecast;
 mod idleness;
 mod listed;

@@ -77,10 +77,7 @@ fn print_unknown<W: Sink>(
 }
 
 /// Prints the name of a near proxy, if there is one, and the line's end.
-pub(crate) fn print_near<W: Sink>(
-    printer: &mut Printer<'_, W>,
-    near: Option<&str>,
-) -> Result<(), EndFault>
+fn print_near<W: Sink>(printer: &mut Printer<'_, W>, near: Option<&str>) -> Result<(), EndFault>
     requires { IsWorking W.Sink printer.old }
     ensures { Prints W.Sink result printer.old printer.new (near_text (option_map (λ near. near.now) near.entry)) }
 {

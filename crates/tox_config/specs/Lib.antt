@@ -3,4 +3,3 @@ pub mod Address
 pub mod Proxy
 pub mod Populate
 pub mod LentProxy
-pub mod Remarks

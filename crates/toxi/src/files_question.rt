@@ -4,13 +4,12 @@ ghost use Rattle.std.specs.Prelude.{◌≡◌, false};
 use crate::explaining::Explaining;
 use crate::files_status::{FileNames, fail_files};
 use crate::kept_files::KeptFiles;
-use crate::unknown_toxic::tell_unknown_toxic;
 use std::alloc::Global;
 use std::io;
 use std::process::ExitCode;
 use std::rt::Files;
-use tox_explain::Failure;
-use tox_proxy::{CheckRequest, ForecastRequest, NamedFiles, PickRequest};
+use thiserror::Error;
+use tox_proxy::{CheckFault, CheckRequest, ForecastRequest, NamedFiles, PickFault, PickRequest};
 use tox_time::{Real, Sink};
 
 /// A question about the two files.
@@ -19,6 +18,15 @@ pub enum FilesQuestion<'a> {
     Check(&'a CheckRequest<'a>),
     Pick(&'a PickRequest<'a>),
     Forecast(&'a ForecastRequest<'a>),
+}
+
+/// Why a question isn't answered, or a check found something.
+#[derive(Clone, Copy, Debug, Error)]
+enum QuestionFault<'a> {
+    #[error("{0}")]
+    Check(CheckFault<'a>),
+    #[error("{0}")]
+    Pick(PickFault<'a>),
 }
 
 /// Reads the files and prints the answer. Returns the status of the program.
@@ -31,18 +39,13 @@ pub fn answer_files<R: Files + Print + Eprint + AllocGlobal>(
     let mut writer = Real::new(io::writer(rt));
     let files = KeptFiles::new(rt, rt.alloc(), explaining);
     match question.answer(&files, rt.alloc(), &mut writer) {
-        Ok(()) => {
-            if let FilesQuestion::Forecast(forecast) = question {
-                tell_unknown_toxic(rt, forecast, &files.into_read());
-            }
-            ExitCode::SUCCESS
-        }
-        Err(failure) => fail_files(
+        Ok(()) => ExitCode::SUCCESS,
+        Err(fault) => fail_files(
             rt,
             explaining,
             &question.names(),
             &files.into_read(),
-            failure,
+            &fault,
         ),
     }
 }
@@ -67,19 +70,19 @@ impl<'a> FilesQuestion<'a> {
         files: &F,
         alloc: Global,
         writer: &mut W,
-    ) -> Result<(), Failure<'a>>
+    ) -> Result<(), QuestionFault<'a>>
         requires { W.failed writer.old ≡ false }
     {
         match self {
             FilesQuestion::Check(check) => check
                 .answer(files, alloc, writer)
-                .map_err(|fault| Failure::from(fault)),
+                .map_err(|fault| QuestionFault::Check(fault)),
             FilesQuestion::Pick(pick) => pick
                 .answer(files, alloc, writer)
-                .map_err(|fault| Failure::from(fault)),
+                .map_err(|fault| QuestionFault::Pick(fault)),
             FilesQuestion::Forecast(forecast) => forecast
                 .answer(files, alloc, writer)
-                .map_err(|fault| Failure::from(fault)),
+                .map_err(|fault| QuestionFault::Pick(fault)),
         }
     }
 }

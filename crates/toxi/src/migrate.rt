@@ -5,9 +5,20 @@ use crate::kept_files::KeptFiles;
 use std::io;
 use std::process::ExitCode;
 use std::rt::Files;
-use tox_explain::Failure;
-use tox_proxy::{NamedFiles, print_migrated};
+use thiserror::Error;
+use tox_proxy::{FileFault, NamedFiles, PrintMigratedFault, print_migrated};
 use tox_time::Real;
+
+/// Why a script was not migrated, or not printed whole.
+#[derive(Clone, Copy, Debug, Error)]
+pub enum MigrateFault<'a> {
+    /// The script file was not read.
+    #[error("{0}")]
+    File(FileFault<'a>),
+    /// The script is refused, or a write failed.
+    #[error("{0}")]
+    Print(PrintMigratedFault),
+}
 
 /// Reads the script file and prints the migrated script. Returns the status of the program.
 #[inline(never)]
@@ -25,15 +36,18 @@ pub fn migrate<R: Files + Print + Eprint + AllocGlobal>(
         script,
         stream: None,
     };
-    fail_files(rt, explaining, &names, &files.into_read(), fault)
+    fail_files(rt, explaining, &names, &files.into_read(), &fault)
 }
 
 fn print<'a, R: Files + Print + AllocGlobal>(
     rt: &R,
     files: &KeptFiles<'_, R>,
     script: &'a str,
-) -> Result<(), Failure<'a>> {
-    let bytes = files.read(rt.alloc(), script).map_err(Failure::from)?;
+) -> Result<(), MigrateFault<'a>> {
+    let bytes = files.read(rt.alloc(), script).map_err(MigrateFault::File)?;
     let mut writer = Real::new(io::writer(rt));
-    print_migrated(rt.alloc(), &mut writer, &bytes).map_err(Failure::from)
+    match print_migrated(rt.alloc(), &mut writer, &bytes) {
+        Ok(()) => Ok(()),
+        Err(fault) => Err(MigrateFault::Print(fault)),
+    }
 }

@@ -1,5 +1,6 @@
 //! `toxi stages`: as `toxi dry`, with one thread for each applied toxic.
 use crate::explaining::Explaining;
+use crate::fault::Fault;
 use crate::kept_input::KeptInput;
 use crate::link::{link_status, read_link};
 use std::io;
@@ -7,7 +8,6 @@ use std::process::ExitCode;
 use std::sync::Wait;
 use std::thread::Threads;
 use tox_arguments::LinkArguments;
-use tox_explain::Failure;
 use tox_proxy::stages_run;
 use tox_time::{Cap, OpenGate, Real};
 
@@ -30,7 +30,7 @@ fn run<R: Input + Print + AllocGlobal + Threads + Wait + Sync>(
     cap: &Cap,
     link: &LinkArguments<'_>,
     input: &mut KeptInput,
-) -> Result<(), Failure<'static>> {
+) -> Result<(), Fault> {
     let link = read_link(rt.alloc(), link)?;
     let mut reader = Real::new(input.reader(rt.reader()));
     let mut writer = Real::new(io::writer(rt));
@@ -44,5 +44,5 @@ fn run<R: Input + Print + AllocGlobal + Threads + Wait + Sync>(
         cap.items(),
         &OpenGate,
     )
-    .map_err(Failure::from)
+    .map_err(Fault::Stages)
 }

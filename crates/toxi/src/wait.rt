@@ -1,8 +1,7 @@
 //! `toxi wait`: until an address accepts a connection.
-use crate::explaining::Explaining;
+use crate::explaining::{Explaining, fail_explained};
 use std::process::ExitCode;
 use tox_arguments::WaitArguments;
-use tox_explain::{Failure, Inputs};
 use tox_proxy::{ServeRuntime, wait_until_ready};
 
 #[inline(never)]
@@ -13,6 +12,6 @@ pub fn wait<R: Eprint + AllocGlobal + ServeRuntime>(
 ) -> ExitCode {
     match wait_until_ready(rt, rt.alloc(), arguments.address, arguments.within) {
         Ok(()) => ExitCode::SUCCESS,
-        Err(fault) => explaining.fail(rt, &Failure::Wait(fault), &Inputs::none()),
+        Err(fault) => fail_explained(rt, explaining, &fault),
     }
 }
