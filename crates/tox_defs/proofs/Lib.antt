@@ -2,6 +2,7 @@ pub mod FlowLemmas
 pub mod Drawn
 pub mod Cutting
 pub mod Uncut
+pub mod NoAttribute
 pub mod OpCursors
 pub mod Windows
 pub mod Stages

@@ -6,8 +6,8 @@ use Rattle.tox_defs.specs.declared.attributes.description.Description.{Descripti
 abbrev pub description_view : LentDescription → Description
 description_view lent = record {
   name = lent.name.now;
-  attributes = map (λ name. name.now) lent.attributes.now;
-  limits = lent.limits.now;
+  attributes = map (λ attribute. attribute.name.now) lent.attributes.now;
+  limits = map (λ attribute. attribute.limits) lent.attributes.now;
   values = lent.values.items;
   window = lent.window;
   effect = lent.effect;

@@ -3,16 +3,18 @@ ghost use Rattle.std.specs.Prelude.{◌≡◌, ◌≤◌, ◌↔◌, None, Some,
 ghost use Rattle.std.specs.List.{list_any};
 ghost use Rattle.std.specs.Str.{bytes_eq};
 ghost use Rattle.tox_defs.specs.Flow.{toxic_effect, toxic_from, toxic_until};
-ghost use Rattle.tox_defs.specs.Toxic.{IsInRange, attributes_of, checked, name_of, toxic_fault, toxic_named, values_of, with_values};
+ghost use Rattle.tox_defs.specs.Toxic.{IsInRange, attributes_of, checked, limits_of, name_of, toxic_fault, toxic_named, values_of, with_values};
 
+pub(crate) mod attribute;
 pub(crate) mod description;
 pub(crate) mod effect;
 pub(crate) mod limits;
+pub(crate) mod unit;
 pub(crate) mod values;
 pub(crate) mod window;
 
+use crate::attributes::attribute::Attribute;
 use crate::attributes::effect::Effect;
-use crate::attributes::limits::are_in;
 use crate::attributes::values::MAX_ATTRIBUTES;
 use crate::attributes::window::Window;
 use crate::fault::ToxicFault;
@@ -37,9 +39,15 @@ impl Toxic {
         self.description().name
     }
 
-    /// The names of the attributes, at most [`MAX_ATTRIBUTES`], in their order.
-    pub fn attributes(&self) -> &'static [&'static str]
-        ensures names { map (λ name. name.now) result.now ≡ attributes_of self.now }
+    /// What the type does, in a line.
+    pub fn words(&self) -> &'static str {
+        self.description().words
+    }
+
+    /// The attributes, at most [`MAX_ATTRIBUTES`], in their order.
+    pub fn attributes(&self) -> &'static [Attribute]
+        ensures names { map (λ attribute. attribute.name.now) result.now ≡ attributes_of self.now }
+        ensures limits { map (λ attribute. attribute.limits) result.now ≡ limits_of self.now }
         ensures few { length result.now ≤ 5 }
     {
         self.description().attributes
@@ -50,7 +58,9 @@ impl Toxic {
         ensures { result ≡ list_any
             (λ attribute. bytes_eq attribute name.now) (attributes_of self.now) }
     {
-        self.attributes().iter().any(|attribute| *attribute == name)
+        self.attributes()
+            .iter()
+            .any(|attribute| attribute.name == name)
     }
 
     /// The values of the attributes, in the order of [`Toxic::attributes`].
@@ -94,7 +104,7 @@ impl Toxic {
         ensures fault { IfErr result (λ e. toxic_fault self.now ≡ Some e) }
     {
         let description = self.description();
-        if !are_in(description.limits, &description.values) {
+        if !description.is_within() {
             return Err(ToxicFault::OutOfRange);
         }
         if self.is_varied_too_much() {

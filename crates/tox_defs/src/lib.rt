@@ -10,7 +10,10 @@ mod stage;
 mod toxic;
 mod toxics;
 
+pub use attributes::attribute::{ABSENT_VALUE, Attribute};
 pub use attributes::effect::Effect;
+pub use attributes::limits::Limits;
+pub use attributes::unit::Unit;
 pub use attributes::values::MAX_ATTRIBUTES;
 pub use attributes::window::Window;
 pub use chain::applied::Placed;

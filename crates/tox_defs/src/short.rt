@@ -8,6 +8,7 @@ ghost use Rattle.tox_defs.specs.declared.toxic.Toxic.{Toxic};
 
 pub(crate) mod pairs;
 
+use crate::attributes::attribute::ABSENT_VALUE;
 use crate::attributes::values::MAX_ATTRIBUTES;
 use crate::chain::MAX_TOXICITY;
 use crate::fault::{ShortFault, ToxicFault};
@@ -86,8 +87,8 @@ fn pair_values(toxic: &Toxic, pairs: &str) -> ArrayVec<u64, MAX_ATTRIBUTES>
     ensures { result.items ≡ pair_values toxic.now (pairs_of pairs.now) }
 {
     let mut values = ArrayVec::new();
-    for key in toxic.attributes() {
-        values.push(value_at(pairs, key).unwrap_or(0));
+    for attribute in toxic.attributes() {
+        values.push(value_at(pairs, attribute.name).unwrap_or(ABSENT_VALUE));
     }
     values
 }

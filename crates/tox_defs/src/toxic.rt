@@ -9,43 +9,43 @@ use crate::toxics::{bandwidth, latency, limit_data, reset_peer, slicer, slow_clo
 
 /// A fault that a link can meet, with the attributes of Toxiproxy's toxic of the same name.
 ///
-/// Times are in milliseconds, except a slicer's `delay` in microseconds. Sizes are in bytes. A chunk that comes before
-/// `from`, or at or past `until` (each 0 to 3,600,000; 0: never), leaves whole and in order, and the toxic doesn't count it.
+/// Times are in milliseconds, except a slicer's `delay` in microseconds. Sizes are in bytes. [`Toxic::attributes`] has each
+/// range. A chunk that comes before `from`, or at or past `until` (0: never), leaves whole and in order, and the toxic doesn't
+/// count it.
 /// A timeout with `from` or `after` above 0, or a reset_peer with `after`, begins later: until then all passes.
 #[derive(Clone, Copy, Debug, PartialEq, Eq)]
 pub enum Toxic {
-    /// Delays all data by `latency` plus or minus `jitter`: each 0 to 3,600,000.
+    /// Delays all data by `latency` plus or minus `jitter`.
     Latency {
         latency: u32,
         jitter: u32,
         until: u32,
         from: u32,
     },
-    /// Limits a connection to `rate` KB/s (1 KB is 1000 bytes): 1 to 1,000,000.
+    /// Limits a connection to `rate` KB/s (1 KB is 1000 bytes).
     Bandwidth {
         rate: u32,
         until: u32,
         from: u32,
     },
-    /// Delays the closing by `delay`: 0 to 3,600,000.
+    /// Delays the closing by `delay`.
     SlowClose {
         delay: u32,
     },
-    /// Drops all data and closes after `timeout`: 0 to 3,600,000. With 0 it never closes. It begins at `from`, or once
-    /// `after` bytes (0 to 2^40) have passed, if that is sooner.
+    /// Drops all data and closes after `timeout`. With 0 it never closes. It begins at `from`, or once `after` bytes have
+    /// passed, if that is sooner.
     Timeout {
         timeout: u32,
         from: u32,
         after: u64,
     },
-    /// Resets the connection `timeout` after its start: 0 to 3,600,000. With `after` (0 to 2^40) it does so once that many
-    /// bytes have passed, and not before.
+    /// Resets the connection `timeout` after its start. With `after` it does so once that many bytes have passed, and not
+    /// before.
     ResetPeer {
         timeout: u32,
         after: u64,
     },
-    /// Cuts data into pieces near `average_size` (1 to 1,000,000), varied by `size_variation` (below it),
-    /// with `delay` microseconds (0 to 3,600,000,000) before each.
+    /// Cuts data into pieces near `average_size`, varied by `size_variation` (below it), with `delay` microseconds before each.
     Slicer {
         average_size: u32,
         size_variation: u32,
@@ -53,7 +53,7 @@ pub enum Toxic {
         until: u32,
         from: u32,
     },
-    /// Closes the connection once `bytes` have passed: 0 to 2^40.
+    /// Closes the connection once `bytes` have passed.
     LimitData {
         bytes: u64,
     },

@@ -9,7 +9,7 @@ ghost use Rattle.tox_words.specs.Draw.{draws_of};
 
 use crate::parts::push_word;
 use std::alloc::{AllocError, Global};
-use tox_defs::{Chain, Entry, MAX_TOXICITY};
+use tox_defs::{ABSENT_VALUE, Attribute, Chain, Entry, MAX_TOXICITY};
 use tox_words::{Drawing, Words};
 
 /// The longest form that the heading shows whole.
@@ -160,17 +160,17 @@ fn push_bare(text: &mut String, entry: &Entry) -> Result<(), AllocError>
 /// Adds a colon and the pairs whose values aren't the default, separated by commas.
 fn push_pairs(
     text: &mut String,
-    keys: &[&str],
+    attributes: &[Attribute],
     values: &[u64],
     toxicity: u64,
 ) -> Result<(), AllocError>
-    requires { length keys.now ≡ length values.now }
+    requires { length attributes.now ≡ length values.now }
     ensures { OnOk result (AddsText text.old text.new
-        (pairs (codes ":") (zip (map (λ key. key.now) keys.now) values.now) toxicity)) }
+        (pairs (codes ":") (zip (map (λ attribute. attribute.name.now) attributes.now) values.now) toxicity)) }
 {
     let mut mark = ":";
-    for (place, key) in keys.iter().enumerate() {
-        mark = push_pair(text, mark, key, values[place], 0)?;
+    for (place, attribute) in attributes.iter().enumerate() {
+        mark = push_pair(text, mark, attribute.name, values[place], ABSENT_VALUE)?;
     }
     push_pair(text, mark, "toxicity", toxicity, u64::from(MAX_TOXICITY))?;
     Ok(())

@@ -6,6 +6,7 @@ ghost use Rattle.tox_text.specs.Printing.{IsWorking, Prints};
 ghost use Rattle.tox_text.specs.Writing.{Writes};
 
 use crate::toxics::NumberedToxic;
+use tox_defs::Attribute;
 use tox_text::Part::{Number, Word};
 use tox_text::Printer;
 use tox_time::{EndFault, Sink, Stream};
@@ -95,16 +96,16 @@ fn short_name(stream: Stream) -> &'static str
 /// Prints the lines of the attributes.
 fn print_attributes<W: Sink>(
     printer: &mut Printer<'_, W>,
-    keys: &[&str],
+    attributes: &[Attribute],
     values: &[u64],
 ) -> Result<(), EndFault>
     requires working { IsWorking W.Sink printer.old }
-    requires enough { length keys.now ≤ length values.now }
+    requires enough { length attributes.now ≤ length values.now }
     ensures { Prints W.Sink result printer.old printer.new
-        (flat_map attribute_line (zip (map (λ key. key.now) keys.now) values.now)) }
+        (flat_map attribute_line (zip (map (λ attribute. attribute.name.now) attributes.now) values.now)) }
 {
-    for (place, key) in keys.iter().enumerate() {
-        print_attribute(printer, key, values[place])?;
+    for (place, attribute) in attributes.iter().enumerate() {
+        print_attribute(printer, attribute.name, values[place])?;
     }
     Ok(())
 }

@@ -9,7 +9,7 @@ use crate::populate_text::write_populate;
 use crate::script_text::write_script;
 use crate::toxics::{InlineToxic, NumberedToxic, read_toxics};
 use std::alloc::Global;
-use tox_config::read_populate;
+use tox_config::{Remarks, read_populate};
 use tox_log::LogBytes;
 use tox_runs::Setup;
 use tox_script::read_script;
@@ -53,6 +53,7 @@ pub fn inline_setup(alloc: Global, inline: &Inline<'_>) -> Result<InlineSetup, I
         script,
         setup: Setup {
             proxies,
+            remarks: Remarks::none(alloc),
             script: rules,
         },
     })

@@ -1,12 +1,17 @@
 -- The elements of a list, and their texts one after the other.
 use Rattle.std.proofs.Common.{◌≡◌, ℕ, ◌+◌, ◌<◌, List, [], ◌∷◌, ◌++◌, length, take, drop, get_or, flat_map, map, refl, ap, sym, ◌∙◌, append-nil, zero-add, subst}
 use Rattle.std.proofs.Common.{arith}
-use denote.Bor.{Bor}
 use Rattle.std.specs.List.{enumerate_from, zip}
 use Rattle.std.proofs.lemmas.Grind.{flat_map-append}
 use Rattle.std.proofs.lemmas.List.{get_or-map, length-map, take_more, take-append-drop, drop_more}
 use Rattle.std.proofs.lemmas.List.FromFn.{get_or-enumerate_from, length-enumerate_from}
 use Rattle.std.proofs.lemmas.Slice.Zip.{get_or-zip, length-zip}
+use Rattle.tox_defs.specs.declared.attributes.attribute.Attribute.{Attribute}
+use Rattle.tox_defs.proofs.NoAttribute.{no_attribute}
+
+-- the name of an attribute
+abbrev name : Attribute → List ℕ
+name attribute = attribute.name.now
 
 -- an element stands at an index
 pub record IsAt {X : Type 0} (xs : List X) (i : ℕ) (x : X) : Type 0 where
@@ -43,14 +48,14 @@ IsAt-zip : {X Y : Type 0} (xs : List X) (ys : List Y) (i : ℕ) (x : X) (y : Y) 
 IsAt-zip xs ys i x y below_xs below_ys =
     record { below = omega (arith, length-zip xs ys); default = (x, y); is = sym (get_or-zip xs ys i (x, y) below_xs below_ys) }
 
--- a key and the value beside it
-pub IsAt-pair : (keys : List (Bor (List ℕ))) (values : List ℕ) (i : ℕ) (key : Bor (List ℕ)) (value : ℕ) → i < length keys → i < length values
-    → IsAt (zip (map (λ k. k.now) keys) values) i ((get_or keys i key).now, get_or values i value)
-IsAt-pair keys values i key value below_keys below_values =
-    let below : i < length (map (λ k. k.now) keys) = omega (arith, length-map keys (λ k. k.now), below_keys) in
-    let same = get_or-map (λ k. k.now) keys i key key.now below_keys in
-    subst (λ k. IsAt (zip (map (λ k. k.now) keys) values) i (k, get_or values i value)) same
-    (IsAt-zip (map (λ k. k.now) keys) values i key.now value below below_values)
+-- the name of an attribute and the value beside it
+pub IsAt-pair : (attributes : List Attribute) (values : List ℕ) (i : ℕ) → i < length attributes → i < length values
+    → IsAt (zip (map name attributes) values) i (name (get_or attributes i no_attribute), get_or values i 0)
+IsAt-pair attributes values i below_attributes below_values =
+    let below : i < length (map name attributes) = omega (arith, length-map attributes name, below_attributes) in
+    let same = get_or-map name attributes i no_attribute (name no_attribute) below_attributes in
+    subst (λ name_there. IsAt (zip (map name attributes) values) i (name_there, get_or values i 0)) same
+    (IsAt-zip (map name attributes) values i (name no_attribute) 0 below below_values)
 
 -- an element stands beside its index
 pub IsAt-enumerate : {X : Type 0} (xs : List X) (i : ℕ) (x : X) → IsAt xs i x → IsAt (enumerate_from 0 xs) i (i, x)

@@ -7,7 +7,7 @@ ghost use Rattle.tox_text.specs.Printing.{IsWorking, Prints};
 
 use crate::parts::Part::{Number, Word};
 use crate::printer::Printer;
-use tox_defs::Entry;
+use tox_defs::{Attribute, Entry};
 use tox_time::{EndFault, Sink};
 
 /// Prints the short form of a toxic with its toxicity.
@@ -25,16 +25,16 @@ pub fn print_short<W: Sink>(printer: &mut Printer<'_, W>, entry: &Entry) -> Resu
 /// Prints each key with its value and a comma, but for an optional one of 0.
 fn print_attributes<W: Sink>(
     printer: &mut Printer<'_, W>,
-    keys: &[&str],
+    attributes: &[Attribute],
     values: &[u64],
 ) -> Result<(), EndFault>
     requires working { IsWorking W.Sink printer.old }
-    requires enough { length keys.now ≤ length values.now }
+    requires enough { length attributes.now ≤ length values.now }
     ensures { Prints W.Sink result printer.old printer.new
-        (flat_map shown_before_comma (zip (map (λ key. key.now) keys.now) values.now)) }
+        (flat_map shown_before_comma (zip (map (λ attribute. attribute.name.now) attributes.now) values.now)) }
 {
-    for (place, key) in keys.iter().enumerate() {
-        print_shown(printer, key, values[place])?;
+    for (place, attribute) in attributes.iter().enumerate() {
+        print_shown(printer, attribute.name, values[place])?;
     }
     Ok(())
 }

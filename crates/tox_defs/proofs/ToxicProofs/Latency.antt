@@ -21,7 +21,7 @@ use Rattle.tox_defs.specs.Toxic.{IsInRange, is_within}
 use Rattle.tox_defs.specs.operations.During.{during}
 use Rattle.tox_defs.proofs.InRange.{both_tests, in_bounds}
 use Rattle.tox_defs.proofs.Windows.{during-passes, during_keeps}
-use Rattle.tox_defs.proofs.ToxicFacts.{ToxicFacts}
+use Rattle.tox_defs.proofs.ToxicFacts.{DelaysByHour, ToxicFacts}
 use Rattle.tox_defs.proofs.Within.{GivesWithin, chunk_within}
 use Rattle.tox_words.specs.Draw.{Draws}
 use Rattle.std.proofs.lemmas.Bool.{and_parts}
@@ -95,8 +95,7 @@ latency_is_op latency zero until from place = refl
 latency_is_op latency (suc jitter) until from place = tt
 
 -- without jitter it delays by the latency
-latency_delays : (latency jitter until from place : ℕ) → IsInRange (Latency latency jitter until from)
-    → millis_of (op_of place (Latency latency jitter until from)) ≤ 3_600_000
+latency_delays : (latency jitter until from : ℕ) → DelaysByHour (Latency latency jitter until from)
 latency_delays latency zero until from place fits =
     let within = both_tests (is_within (Latency latency 0 until from)) false fits in
     (in_bounds up_to_hour latency (and_parts (is_in up_to_hour latency) _ within.0).0).1

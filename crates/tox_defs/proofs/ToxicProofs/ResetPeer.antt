@@ -26,7 +26,7 @@ use Rattle.tox_defs.specs.declared.operations.state.State.{State}
 use Rattle.tox_defs.proofs.StreamKeepers.{NotAfterEither, unchanged_final}
 use Rattle.tox_defs.proofs.PassedBytes.{PassesAtMost}
 use Rattle.tox_defs.specs.declared.toxic.Toxic.TheVariants.{ResetPeer}
-use Rattle.tox_defs.proofs.ToxicFacts.{ToxicFacts}
+use Rattle.tox_defs.proofs.ToxicFacts.{DelaysByHour, ToxicFacts}
 use Rattle.tox_defs.proofs.Within.{GivesWithin, LieWithin, item_within}
 use Rattle.tox_time.specs.Time.{micros_of}
 use Rattle.std.proofs.lemmas.Grind.{common_steps}
@@ -121,9 +121,9 @@ reset_peer_is_op : (timeout after place : ℕ) → IsOp (op_of place (ResetPeer 
 reset_peer_is_op timeout zero place = omega arith
 reset_peer_is_op timeout (suc after) place = (tt, omega arith)
 
-reset_peer_delays : (timeout after place : ℕ) → millis_of (op_of place (ResetPeer timeout after)) ≤ 3_600_000
-reset_peer_delays timeout zero place = omega arith
-reset_peer_delays timeout (suc after) place = omega arith
+reset_peer_delays : (timeout after : ℕ) → DelaysByHour (ResetPeer timeout after)
+reset_peer_delays timeout zero place fits = omega arith
+reset_peer_delays timeout (suc after) place fits = omega arith
 
 reset_peer_passes : (timeout after : ℕ) (words : ℕ → ℕ) → PassesAtMost (toxic_reaction (ResetPeer timeout after) words)
 reset_peer_passes timeout zero words = cut_off-passes (micros_of timeout)
@@ -144,7 +144,7 @@ pub reset_peer_facts : (timeout after : ℕ) → ToxicFacts (ResetPeer timeout a
 reset_peer_facts timeout after = record {
   reacts = reset_peer_reacts timeout after;
   is_op = λ place fits. reset_peer_is_op timeout after place;
-  delays = λ place fits. reset_peer_delays timeout after place;
+  delays = reset_peer_delays timeout after;
   passes = reset_peer_passes timeout after;
   within = reset_peer_within timeout after;
   law = λ fits. reset_peer_law timeout after;

@@ -16,7 +16,7 @@ use Rattle.tox_defs.proofs.PassedBytes.{PassesAtMost}
 use Rattle.tox_defs.specs.toxics.Ranges.{is_in, up_to_hour}
 use Rattle.tox_defs.specs.Toxic.{IsInRange, is_within}
 use Rattle.tox_defs.proofs.InRange.{both_tests, in_bounds}
-use Rattle.tox_defs.proofs.ToxicFacts.{ToxicFacts}
+use Rattle.tox_defs.proofs.ToxicFacts.{DelaysByHour, ToxicFacts}
 use Rattle.tox_defs.proofs.Within.{GivesWithin, chunk_within}
 use Rattle.std.proofs.lemmas.Bool.{and_parts}
 use Rattle.std.proofs.lemmas.Grind.{common_steps}
@@ -67,8 +67,8 @@ slow_within micros state (Reset t) items = tt
 slow_within micros state Quiet items = tt
 
 -- it delays a close by its delay
-slow_delays : (delay : ℕ) → IsInRange (SlowClose delay) → delay ≤ 3_600_000
-slow_delays delay fits =
+slow_delays : (delay : ℕ) → DelaysByHour (SlowClose delay)
+slow_delays delay place fits =
     let within = both_tests (is_within (SlowClose delay)) false fits in
     (in_bounds up_to_hour delay (and_parts (is_in up_to_hour delay) true within.0).0).1
 
@@ -76,7 +76,7 @@ pub slow_close_facts : (delay : ℕ) → ToxicFacts (SlowClose delay)
 slow_close_facts delay = record {
   reacts = λ place draws. refl;
   is_op = λ place fits. tt;
-  delays = λ place. slow_delays delay;
+  delays = slow_delays delay;
   passes = λ words. closed_later-passes (1000 * delay);
   within = λ words. slow_within (1000 * delay);
   law = λ fits start never words items list. table-slow_close delay words items 0 0 0 0 0 0 list.0;

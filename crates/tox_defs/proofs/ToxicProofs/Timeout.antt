@@ -23,7 +23,7 @@ use Rattle.tox_defs.specs.declared.toxic.Toxic.TheVariants.{Timeout}
 use Rattle.tox_defs.specs.Laws.{HasLaw}
 use Rattle.tox_defs.specs.operations.Op.{EndsInTime, IsOp, millis_of, op_of, op_reaction}
 use Rattle.tox_defs.specs.toxics.Timeout.{LeavesAtMost, timeout_ending, timeout_start}
-use Rattle.tox_defs.proofs.ToxicFacts.{ToxicFacts}
+use Rattle.tox_defs.proofs.ToxicFacts.{DelaysByHour, ToxicFacts}
 use Rattle.tox_defs.proofs.Within.{GivesWithin, final_within}
 use Rattle.std.proofs.lemmas.Grind.{common_steps}
 use Rattle.tox_defs.specs.declared.operations.state.State.{State}
@@ -86,10 +86,10 @@ timeout_is_op timeout zero zero place = timeout_in_time timeout
 timeout_is_op timeout zero (suc after) place = (tt, timeout_in_time timeout)
 timeout_is_op timeout (suc from) after place = (omega arith, timeout_in_time timeout)
 
-timeout_delays : (timeout from after place : ℕ) → millis_of (op_of place (Timeout timeout from after)) ≤ 3_600_000
-timeout_delays timeout zero zero place = omega arith
-timeout_delays timeout zero (suc after) place = omega arith
-timeout_delays timeout (suc from) after place = omega arith
+timeout_delays : (timeout from after : ℕ) → DelaysByHour (Timeout timeout from after)
+timeout_delays timeout zero zero place fits = omega arith
+timeout_delays timeout zero (suc after) place fits = omega arith
+timeout_delays timeout (suc from) after place fits = omega arith
 
 timeout_passes : (timeout from after : ℕ) (words : ℕ → ℕ) → PassesAtMost (toxic_reaction (Timeout timeout from after) words)
 timeout_passes timeout zero zero words = muted-passes (timeout_ending timeout)
@@ -135,7 +135,7 @@ pub timeout_facts : (timeout from after : ℕ) → ToxicFacts (Timeout timeout f
 timeout_facts timeout from after = record {
   reacts = timeout_reacts timeout from after;
   is_op = λ place fits. timeout_is_op timeout from after place;
-  delays = λ place fits. timeout_delays timeout from after place;
+  delays = timeout_delays timeout from after;
   passes = timeout_passes timeout from after;
   within = timeout_within timeout from after;
   law = λ fits. timeout_law timeout from after;

@@ -1,14 +1,14 @@
 //! Ranges of attributes.
 ghost use Rattle.std.specs.Prelude.{◌≡◌};
-ghost use Rattle.tox_defs.specs.toxics.Ranges.{are_in, is_in};
+ghost use Rattle.tox_defs.specs.toxics.Ranges.{is_in};
 
 use tox_time::MAX_BYTES;
 
 /// The values that an attribute may have: `least..=most`.
 #[derive(Clone, Copy)]
-pub(crate) struct Limits {
-    pub(crate) least: u64,
-    pub(crate) most: u64,
+pub struct Limits {
+    pub least: u64,
+    pub most: u64,
 }
 
 /// Up to an hour, in milliseconds.
@@ -36,19 +36,10 @@ pub(crate) const ANY_VALUE: Limits = Limits {
 };
 
 impl Limits {
-    fn has(&self, value: u64) -> bool
+    /// Whether a value is in the range.
+    pub fn has(&self, value: u64) -> bool
         ensures { result ≡ is_in self.now value }
     {
         self.least <= value && value <= self.most
     }
-}
-
-/// Whether each value is in the range at its place.
-pub(crate) fn are_in(limits: &[Limits], values: &[u64]) -> bool
-    ensures { result ≡ are_in limits.now values.now }
-{
-    limits
-        .iter()
-        .zip(values)
-        .all(|(limits, value)| limits.has(*value))
 }

@@ -7,9 +7,11 @@ ghost use Rattle.tox_defs.specs.stage.Reaction.{counted};
 ghost use Rattle.tox_defs.specs.Toxic.{checked};
 ghost use Rattle.tox_defs.specs.toxics.Bandwidth.{bandwidth_description, bandwidth_of, pace_gives};
 
+use crate::attributes::attribute::{Attribute, FROM, UNTIL};
 use crate::attributes::description::Description;
 use crate::attributes::effect::Effect;
-use crate::attributes::limits::{ONE_TO_MILLION, UP_TO_HOUR};
+use crate::attributes::limits::ONE_TO_MILLION;
+use crate::attributes::unit::Unit;
 use crate::attributes::values::{listed, saturated};
 use crate::attributes::window::Window;
 use crate::operations::look::Look;
@@ -26,8 +28,17 @@ pub(crate) fn description(rate: u32, until: u32, from: u32) -> Description
 {
     Description {
         name: "bandwidth",
-        attributes: &["rate", "until", "from"],
-        limits: &[ONE_TO_MILLION, UP_TO_HOUR, UP_TO_HOUR],
+        words: "passes so many kilobytes (of 1000 bytes) a second",
+        attributes: &[
+            Attribute {
+                name: "rate",
+                unit: Unit::Kilobytes,
+                limits: ONE_TO_MILLION,
+                words: "how many pass each second",
+            },
+            UNTIL,
+            FROM,
+        ],
         values: listed(&[u64::from(rate), u64::from(until), u64::from(from)]),
         window: Window { from, until },
         effect: Effect {

@@ -8,9 +8,11 @@ ghost use Rattle.tox_defs.specs.stage.Reaction.{counted};
 ghost use Rattle.tox_defs.specs.Toxic.{checked};
 ghost use Rattle.tox_defs.specs.toxics.Latency.{delay_of, delay_op_gives, latency_description, latency_of};
 
+use crate::attributes::attribute::{Attribute, FROM, UNTIL};
 use crate::attributes::description::Description;
 use crate::attributes::effect::Effect;
 use crate::attributes::limits::UP_TO_HOUR;
+use crate::attributes::unit::Unit;
 use crate::attributes::values::{listed, saturated};
 use crate::attributes::window::Window;
 use crate::operations::look::Look;
@@ -28,8 +30,23 @@ pub(crate) fn description(latency: u32, jitter: u32, until: u32, from: u32) -> D
 {
     Description {
         name: "latency",
-        attributes: &["latency", "jitter", "until", "from"],
-        limits: &[UP_TO_HOUR, UP_TO_HOUR, UP_TO_HOUR, UP_TO_HOUR],
+        words: "delays all data by latency plus or minus jitter",
+        attributes: &[
+            Attribute {
+                name: "latency",
+                unit: Unit::Milliseconds,
+                limits: UP_TO_HOUR,
+                words: "how much later data leaves",
+            },
+            Attribute {
+                name: "jitter",
+                unit: Unit::Milliseconds,
+                limits: UP_TO_HOUR,
+                words: "each piece leaves up to so much earlier or later than that",
+            },
+            UNTIL,
+            FROM,
+        ],
         values: listed(&[
             u64::from(latency),
             u64::from(jitter),

@@ -7,9 +7,11 @@ ghost use Rattle.tox_defs.specs.stage.Reaction.{counted};
 ghost use Rattle.tox_defs.specs.Toxic.{checked};
 ghost use Rattle.tox_defs.specs.toxics.LimitData.{limit_data_description, limit_data_of, limit_gives};
 
+use crate::attributes::attribute::Attribute;
 use crate::attributes::description::Description;
 use crate::attributes::effect::Effect;
 use crate::attributes::limits::UP_TO_MAX_BYTES;
+use crate::attributes::unit::Unit;
 use crate::attributes::values::{listed, value};
 use crate::attributes::window::Window;
 use crate::operations::look::Look;
@@ -26,8 +28,13 @@ pub(crate) fn description(bytes: u64) -> Description
 {
     Description {
         name: "limit_data",
-        attributes: &["bytes"],
-        limits: &[UP_TO_MAX_BYTES],
+        words: "closes the connection after so many bytes",
+        attributes: &[Attribute {
+            name: "bytes",
+            unit: Unit::Bytes,
+            limits: UP_TO_MAX_BYTES,
+            words: "how many pass before it closes",
+        }],
         values: listed(&[bytes]),
         window: Window::ALWAYS,
         effect: Effect::ANY,

@@ -9,9 +9,11 @@ ghost use Rattle.tox_defs.specs.declared.operations.state.State.{State as OneSta
 ghost use Rattle.tox_defs.specs.Toxic.{checked};
 ghost use Rattle.tox_defs.specs.toxics.ResetPeer.{cutoff_gives, reset_peer_description, reset_peer_of, reset_peer_op};
 
+use crate::attributes::attribute::Attribute;
 use crate::attributes::description::Description;
 use crate::attributes::effect::Effect;
 use crate::attributes::limits::{UP_TO_HOUR, UP_TO_MAX_BYTES};
+use crate::attributes::unit::Unit;
 use crate::attributes::values::{listed, saturated, value};
 use crate::attributes::window::Window;
 use crate::operations::look::Look;
@@ -27,8 +29,21 @@ pub(crate) fn description(timeout: u32, after: u64) -> Description
 {
     Description {
         name: "reset_peer",
-        attributes: &["timeout", "after"],
-        limits: &[UP_TO_HOUR, UP_TO_MAX_BYTES],
+        words: "resets the connection after a time",
+        attributes: &[
+            Attribute {
+                name: "timeout",
+                unit: Unit::Milliseconds,
+                limits: UP_TO_HOUR,
+                words: "when the connection is reset",
+            },
+            Attribute {
+                name: "after",
+                unit: Unit::Bytes,
+                limits: UP_TO_MAX_BYTES,
+                words: "resets behind so many bytes, and not before that time; 0: at that time",
+            },
+        ],
         values: listed(&[u64::from(timeout), after]),
         window: Window::ALWAYS,
         effect: Effect::ANY,

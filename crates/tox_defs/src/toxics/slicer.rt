@@ -8,9 +8,11 @@ ghost use Rattle.tox_defs.specs.stage.Reaction.{counted};
 ghost use Rattle.tox_defs.specs.Toxic.{checked};
 ghost use Rattle.tox_defs.specs.toxics.Slicer.{is_slicer_varied_too_much, slicer_description, slicer_gives, slicer_of};
 
+use crate::attributes::attribute::{Attribute, FROM, UNTIL};
 use crate::attributes::description::Description;
 use crate::attributes::effect::Effect;
-use crate::attributes::limits::{ANY_VALUE, Limits, ONE_TO_MILLION, UP_TO_HOUR};
+use crate::attributes::limits::{ANY_VALUE, Limits, ONE_TO_MILLION};
+use crate::attributes::unit::Unit;
 use crate::attributes::values::{listed, saturated, value};
 use crate::attributes::window::Window;
 use crate::operations::look::Look;
@@ -42,13 +44,28 @@ pub(crate) fn description(
 {
     Description {
         name: "slicer",
-        attributes: &["average_size", "size_variation", "delay", "until", "from"],
-        limits: &[
-            ONE_TO_MILLION,
-            ANY_VALUE,
-            UP_TO_HOUR_IN_MICROS,
-            UP_TO_HOUR,
-            UP_TO_HOUR,
+        words: "cuts data into pieces, with a wait before each",
+        attributes: &[
+            Attribute {
+                name: "average_size",
+                unit: Unit::Bytes,
+                limits: ONE_TO_MILLION,
+                words: "the size of a piece",
+            },
+            Attribute {
+                name: "size_variation",
+                unit: Unit::Bytes,
+                limits: ANY_VALUE,
+                words: "a piece has up to so many bytes more or fewer; below average_size",
+            },
+            Attribute {
+                name: "delay",
+                unit: Unit::Microseconds,
+                limits: UP_TO_HOUR_IN_MICROS,
+                words: "the wait before each piece",
+            },
+            UNTIL,
+            FROM,
         ],
         values: listed(&[
             u64::from(average_size),

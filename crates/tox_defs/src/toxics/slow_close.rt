@@ -9,9 +9,11 @@ ghost use Rattle.tox_defs.specs.declared.operations.state.State.{State as OneSta
 ghost use Rattle.tox_defs.specs.Toxic.{checked};
 ghost use Rattle.tox_defs.specs.toxics.SlowClose.{slow_close_description, slow_close_of, slow_gives};
 
+use crate::attributes::attribute::Attribute;
 use crate::attributes::description::Description;
 use crate::attributes::effect::Effect;
 use crate::attributes::limits::UP_TO_HOUR;
+use crate::attributes::unit::Unit;
 use crate::attributes::values::{listed, saturated};
 use crate::attributes::window::Window;
 use crate::operations::look::Look;
@@ -26,8 +28,13 @@ pub(crate) fn description(delay: u32) -> Description
 {
     Description {
         name: "slow_close",
-        attributes: &["delay"],
-        limits: &[UP_TO_HOUR],
+        words: "delays the closing",
+        attributes: &[Attribute {
+            name: "delay",
+            unit: Unit::Milliseconds,
+            limits: UP_TO_HOUR,
+            words: "how much later the link closes",
+        }],
         values: listed(&[u64::from(delay)]),
         window: Window::ALWAYS,
         effect: Effect {

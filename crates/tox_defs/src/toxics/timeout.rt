@@ -4,9 +4,11 @@ ghost use Rattle.tox_defs.specs.DescriptionInside.{description_view};
 ghost use Rattle.tox_defs.specs.Toxic.{checked};
 ghost use Rattle.tox_defs.specs.toxics.Timeout.{timeout_description, timeout_ending, timeout_of, timeout_op, timeout_start};
 
+use crate::attributes::attribute::{Attribute, FROM};
 use crate::attributes::description::Description;
 use crate::attributes::effect::Effect;
 use crate::attributes::limits::{UP_TO_HOUR, UP_TO_MAX_BYTES};
+use crate::attributes::unit::Unit;
 use crate::attributes::values::{listed, saturated, value};
 use crate::attributes::window::Window;
 use crate::operations::op::Op;
@@ -20,8 +22,22 @@ pub(crate) fn description(timeout: u32, from: u32, after: u64) -> Description
 {
     Description {
         name: "timeout",
-        attributes: &["timeout", "from", "after"],
-        limits: &[UP_TO_HOUR, UP_TO_HOUR, UP_TO_MAX_BYTES],
+        words: "drops all data, and closes after a time",
+        attributes: &[
+            Attribute {
+                name: "timeout",
+                unit: Unit::Milliseconds,
+                limits: UP_TO_HOUR,
+                words: "when the link closes; 0: never",
+            },
+            FROM,
+            Attribute {
+                name: "after",
+                unit: Unit::Bytes,
+                limits: UP_TO_MAX_BYTES,
+                words: "begins behind so many bytes, if that is sooner; 0: not for their sake",
+            },
+        ],
         values: listed(&[u64::from(timeout), u64::from(from), after]),
         window: Window::ALWAYS,
         effect: Effect {

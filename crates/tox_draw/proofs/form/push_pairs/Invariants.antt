@@ -9,5 +9,5 @@ use Rattle.tox_draw.proofs.form.push_pairs.Given as goal
 abbrev pub invariant-loop-place : goal.invariant-loop-place
 invariant-loop-place l =
     shadow (Utf8 l.mark)
-    × (string_bytes l.text ++ pairs l.mark (zip (map (λ key. key.now) (drop l.place l.keys)) (drop l.place l.values)) l.toxicity
-    ≡ string_bytes l.fn.text ++ pairs (codes ":") (zip (map (λ key. key.now) l.keys) l.values) l.toxicity)
+    × (string_bytes l.text ++ pairs l.mark (zip (map (λ attribute. attribute.name.now) (drop l.place l.attributes)) (drop l.place l.values)) l.toxicity
+    ≡ string_bytes l.fn.text ++ pairs (codes ":") (zip (map (λ attribute. attribute.name.now) l.attributes) l.values) l.toxicity)

@@ -1,5 +1,5 @@
 -- One pair behind the other.
-use Rattle.std.proofs.Common.{◌≤◌, [], arith, length, map}
+use Rattle.std.proofs.Common.{◌≤◌, arith, length, map}
 use Rattle.std.specs.List.{zip}
 use Rattle.std.proofs.lemmas.List.{length-map}
 use Rattle.std.proofs.lemmas.Slice.Zip.{length-zip}
@@ -13,17 +13,17 @@ loop-place-init g c = Prints-none c.requires.working
 
 pub loop-place-preserved : goal.loop-place-preserved
 loop-place-preserved g c =
-    let here = IsAt-pair c.args.keys.now c.args.values.now c.loop-place.place (record { ref_ptr = (0, 0); now = [] }) 0 c.loop-place-test.true (omega arith) in
+    let here = IsAt-pair c.args.attributes.now c.args.values.now c.loop-place.place c.loop-place-test.true (omega arith) in
     Prints-more shown_before_comma here c.loop-place.invariant c.in_ok-print_shown.ensures
 
 pub returns-in_err-print_shown : goal.returns-in_err-print_shown
 returns-in_err-print_shown g c =
-    let here = IsAt-pair c.args.keys.now c.args.values.now c.loop-place.place (record { ref_ptr = (0, 0); now = [] }) 0 c.loop-place-test.true (omega arith) in
+    let here = IsAt-pair c.args.attributes.now c.args.values.now c.loop-place.place c.loop-place-test.true (omega arith) in
     Prints-stopped shown_before_comma here c.from_residual.ensures.1 c.loop-place.invariant c.in_err-print_shown.ensures
 
 pub returns : goal.returns
 returns g c =
-    let keys = map (λ key. key.now) c.args.keys.now in
+    let keys = map (λ attribute. attribute.name.now) c.args.attributes.now in
     let past : length (zip keys c.args.values.now) ≤ c.loop-place.place =
-    omega (arith, length-zip keys c.args.values.now, length-map c.args.keys.now (λ key. key.now), c.loop-place-test.false) in
+    omega (arith, length-zip keys c.args.values.now, length-map c.args.attributes.now (λ attribute. attribute.name.now), c.loop-place-test.false) in
     Prints-all shown_before_comma _ _ past c.loop-place.invariant

@@ -7,4 +7,4 @@ use Rattle.tox_text.proofs.short_form.print_attributes.Given as goal
 
 abbrev pub invariant-loop-place : goal.invariant-loop-place
 invariant-loop-place g l = Prints g.W.Sink (Ok tt) l.fn.printer l.printer
-    (flat_map shown_before_comma (take l.place (zip (map (λ key. key.now) l.keys) l.values)))
+    (flat_map shown_before_comma (take l.place (zip (map (λ attribute. attribute.name.now) l.attributes) l.values)))
