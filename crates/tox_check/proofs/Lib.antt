@@ -11,6 +11,7 @@ pub mod CoveredBy
 pub mod NeverWarned
 pub mod NamedTrees
 pub mod RuleLines
+pub mod LinesShared
 pub mod LinesThen
 pub mod NumberedRules
 pub mod ProxyRuns

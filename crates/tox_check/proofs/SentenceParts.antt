@@ -14,3 +14,9 @@ sentence-parts rule warning = ap (λ digits. (codes "rule " ++ digits) ++ warnin
 pub unknown_text-parts : (name : List ℕ) (near : Option (List ℕ)) → (codes " never applies: no proxy " ++ (visible_name name ++ [])) ++ near_text near
     ≡ unknown_text name near
 unknown_text-parts name near = ap (λ shown. (codes " never applies: no proxy " ++ shown) ++ near_text near) (append-nil (visible_name name))
+
+pub unread_line-parts : (proxy key : List ℕ) (near : Option (List ℕ))
+    → (codes "proxy " ++ (visible_name proxy ++ (codes " has an unknown member: " ++ (visible_name key ++ [])))) ++ near_text near
+    ≡ (codes "proxy " ++ (visible_name proxy ++ (codes " has an unknown member: " ++ visible_name key))) ++ near_text near
+unread_line-parts proxy key near =
+    ap (λ shown. (codes "proxy " ++ (visible_name proxy ++ (codes " has an unknown member: " ++ shown))) ++ near_text near) (append-nil (visible_name key))

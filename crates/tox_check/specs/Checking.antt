@@ -5,13 +5,14 @@ use Rattle.std.specs.Io.KnownBytes.{append_known}
 use Rattle.std.specs.List.{find, list_any}
 use Rattle.tox_config.specs.Populate.{is_named}
 use Rattle.tox_config.specs.Proxy.{Proxy}
+use Rattle.tox_config.specs.Remarks.{Noted}
 use Rattle.tox_script.specs.Rule.{Rule, Rules}
 use Rattle.tox_script.specs.index.Numbered.{covering_number}
 use Rattle.tox_text.specs.Writing.{AppendsFront}
 use Rattle.tox_text.specs.declared.pick_text.PrintPickFault.{PrintPickFault}
 use Rattle.tox_text.specs.declared.pick_text.PrintPickFault.TheVariants.{OutOfMemory, WriteFault}
 use Rattle.tox_runs.specs.files.Files.{KnownFile}
-use Rattle.tox_runs.specs.files.Setup.{HasSetupCause, IsSetUp}
+use Rattle.tox_runs.specs.files.Setup.{HasSetupCause, IsSetUp, Notes}
 use Rattle.tox_check.specs.Lines.{check_lines, rule_warnings}
 use Rattle.tox_check.specs.Runs.{IsRuns}
 use Rattle.tox_check.specs.Sentences.{tells_never}
@@ -62,20 +63,20 @@ end_text true proxies script = counts_line proxies script
 end_text false proxies script = []
 
 -- this text tells what of a setup has no effect, in so many lines and, if it is asked for, a last one
-pub record Checks (proxies : List Proxy) (script : Rules) (verbose : Bool) (text : List ℕ)
+pub record Checks (noted : Noted) (proxies : List Proxy) (script : Rules) (verbose : Bool) (text : List ℕ)
     (warned : ℕ) : Type 0 where
   pub runs : List ℕ → List Run
   pub are_runs : AreRuns proxies script runs
   pub spelled : text
-      ≡ flat_map (λ line. line) (check_lines proxies script runs) ++ end_text verbose proxies script
-  pub counted : warned ≡ held (length (check_lines proxies script runs))
+      ≡ flat_map (λ line. line) (check_lines noted proxies script runs) ++ end_text verbose proxies script
+  pub counted : warned ≡ held (length (check_lines noted proxies script runs))
   pub never : TellsNever proxies script runs
 
 -- a check was printed
-pub record PrintsCheck (proxies : List Proxy) (script : Rules) (verbose : Bool)
+pub record PrintsCheck (noted : Noted) (proxies : List Proxy) (script : Rules) (verbose : Bool)
     (old new : Option (List ℕ)) (warned : ℕ) : Type 0 where
   pub text : List ℕ
-  pub checks : Checks proxies script verbose text warned
+  pub checks : Checks noted proxies script verbose text warned
   pub written : new ≡ append_known old text
 
 -- whether the writer has failed
@@ -84,11 +85,11 @@ has_failed OutOfMemory = false
 has_failed WriteFault = true
 
 -- a prefix of a check was written, and the writer has failed where a write did
-pub record StopsCheck (proxies : List Proxy) (script : Rules) (verbose : Bool)
+pub record StopsCheck (noted : Noted) (proxies : List Proxy) (script : Rules) (verbose : Bool)
     (old new : Option (List ℕ)) (failed : Bool) (fault : PrintPickFault) : Type 0 where
   pub text : List ℕ
   pub warned : ℕ
-  pub checks : Checks proxies script verbose text warned
+  pub checks : Checks noted proxies script verbose text warned
   pub left : AppendsFront old new text
   pub warning_text : failed ≡ has_failed fault
 
@@ -97,16 +98,20 @@ pub record AnswersCheck (known : List ℕ → KnownFile) (request : CheckRequest
     (old new : Option (List ℕ)) (warned : ℕ) : Type 0 where
   pub proxies : List Proxy
   pub script : Rules
+  pub noted : Noted
   pub set_up : IsSetUp (known request.config.now) (known request.script.now) proxies script
-  pub prints : PrintsCheck proxies script request.verbose old new warned
+  pub notes : Notes (known request.config.now) proxies noted
+  pub prints : PrintsCheck noted proxies script request.verbose old new warned
 
 -- both files were read, and the answer was not printed for this cause
 pub record Stops (known : List ℕ → KnownFile) (request : CheckRequest) (old new : Option (List ℕ))
     (failed : Bool) (fault : PrintPickFault) : Type 0 where
   pub proxies : List Proxy
   pub script : Rules
+  pub noted : Noted
   pub set_up : IsSetUp (known request.config.now) (known request.script.now) proxies script
-  pub stops : StopsCheck proxies script request.verbose old new failed fault
+  pub notes : Notes (known request.config.now) proxies noted
+  pub stops : StopsCheck noted proxies script request.verbose old new failed fault
 
 -- the answer was printed, and had no warning if one is a fault
 pub record AnswersWell (known : List ℕ → KnownFile) (request : CheckRequest)

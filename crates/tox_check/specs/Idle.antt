@@ -1,5 +1,5 @@
 -- Toxics that change nothing.
-use Rattle.std.specs.Prelude.{ℕ, zero, suc, ◌==◌, ◌&&◌, ◌||◌, Bool, true, false, List, [], ◌∷◌, drop, length, nat_le, nat_lt, slice_get, take, Option, None}
+use Rattle.std.specs.Prelude.{ℕ, zero, suc, ◌==◌, ◌&&◌, ◌||◌, Bool, List, [], ◌∷◌, drop, length, nat_le, nat_lt, slice_get, take, Option, None}
 use Rattle.std.specs.Prelude.{Some, if◌then◌else◌}
 use Rattle.std.specs.List.{list_any}
 use Rattle.tox_time.specs.declared.streams.item.Item.{Item}

@@ -9,6 +9,7 @@ pub mod Tree
 pub mod Sentences
 pub mod Lines
 pub mod ProxyLines
+pub mod FileLines
 pub mod RuleWarnings
 pub mod Checking
 pub mod Trees

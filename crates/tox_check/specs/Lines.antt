@@ -6,6 +6,7 @@ use Rattle.tox_time.specs.declared.streams.stream.Stream.{Stream}
 use Rattle.tox_defs.specs.declared.chain.Entry.{Entry}
 use Rattle.tox_config.specs.Populate.{is_named}
 use Rattle.tox_config.specs.Proxy.{Proxy}
+use Rattle.tox_config.specs.Remarks.{Noted}
 use Rattle.tox_script.specs.Rule.{Rule, Rules}
 use Rattle.tox_script.specs.chains.Chains.{on}
 use Rattle.tox_script.specs.declared.chains.Chains.{Chains}
@@ -13,8 +14,9 @@ use Rattle.tox_check.specs.forecast.Totals.{PlacedToxic, placed_from}
 use Rattle.tox_check.specs.declared.forecast.totals.places.Places.{Places}
 use Rattle.tox_text.specs.Nearest.{nearest}
 use Rattle.tox_check.specs.Coverage.{last_of, own_of, taken_of, within}
+use Rattle.tox_check.specs.FileLines.{file_lines}
 use Rattle.tox_check.specs.Idle.{idleness_at}
-use Rattle.tox_check.specs.ProxyLines.{line_if, proxies_lines}
+use Rattle.tox_check.specs.ProxyLines.{line_if}
 use Rattle.tox_check.specs.Sentences.{changes_nothing_text, covered_text, disabled_text, no_toxicity_text, partly_text, seldom_text, unknown_text}
 use Rattle.tox_check.specs.Summary.{greatest, least}
 use Rattle.tox_check.specs.declared.idleness.Idleness.{Idleness}
@@ -101,6 +103,6 @@ rules_lines proxies script runs =
     flat_map (λ numbered. rule_lines proxies runs numbered.0 numbered.1)
     (enumerate_from 1 script.rules)
 
--- the lines of a check: those of the proxies, and then those of the rules
-abbrev pub check_lines : List Proxy → Rules → (List ℕ → List Run) → List (List ℕ)
-check_lines proxies script runs = proxies_lines proxies ++ rules_lines proxies script runs
+-- the lines of a check: those of the populate file, and then those of the rules
+abbrev pub check_lines : Noted → List Proxy → Rules → (List ℕ → List Run) → List (List ℕ)
+check_lines noted proxies script runs = file_lines noted proxies ++ rules_lines proxies script runs

@@ -9,7 +9,7 @@ ghost use Rattle.tox_check.specs.Printing.{PrintsLines};
 ghost use Rattle.tox_check.specs.Sentences.{sentence};
 ghost use Rattle.tox_check.specs.Trees.{AreTrees, runs_named};
 
-use crate::proxies::print_proxies;
+use crate::file_lines::print_file;
 use crate::rule_warnings::warnings_of;
 use crate::tree::RunTree;
 use crate::trees::trees_of;
@@ -21,8 +21,8 @@ use tox_text::Part::{Number, Word};
 use tox_text::{PrintPickFault, Printer};
 use tox_time::{EndFault, Sink};
 
-/// Writes a line for each address of a proxy that can't be meant, in the populate file's order, then for each rule and each toxic of a
-/// setup that has no effect, or not the whole one, in the script's order, and where it is asked for a last line with the numbers of
+/// Writes a line for what of the populate file isn't read or stands more than once and for each address of a proxy that can't be meant, then for each
+/// rule and each toxic of a setup that has no effect, or not the whole one, in the script's order, and where it is asked for a last line with the numbers of
 /// proxies, rules and toxics. Returns the number of warnings.
 ///
 /// A prefix of the text is written after a fault.
@@ -33,10 +33,10 @@ pub fn print_check<W: Sink>(
     verbose: bool,
 ) -> Result<u64, PrintPickFault>
     requires { W.failed writer.old ≡ false }
-    ensures ok { IfOk result (PrintsCheck setup.now.proxies.items setup.now.script verbose
+    ensures ok { IfOk result (PrintsCheck setup.now.remarks setup.now.proxies.items setup.now.script verbose
         (W.written writer.old) (W.written writer.new)) }
     ensures working { IsOk result → W.failed writer.new ≡ false }
-    ensures left { IfErr result (StopsCheck setup.now.proxies.items setup.now.script verbose
+    ensures left { IfErr result (StopsCheck setup.now.remarks setup.now.proxies.items setup.now.script verbose
         (W.written writer.old) (W.written writer.new) (W.failed writer.new)) }
 {
     let rules = setup.script.rule_count();
@@ -54,7 +54,7 @@ pub fn print_check<W: Sink>(
     }
 }
 
-/// Prints the lines of all proxies and rules, and returns how many there are.
+/// Prints the lines of the populate file and of all rules, and returns how many there are.
 fn print_lines<W: Sink>(
     alloc: Global,
     printer: &mut Printer<'_, W>,
@@ -66,10 +66,10 @@ fn print_lines<W: Sink>(
     requires trees { AreTrees setup.now.script setup.now.proxies.items trees.now }
     requires rules { rules ≡ length setup.now.script.rules }
     ensures { PrintsLines W.Sink result printer.old printer.new
-        (check_lines setup.now.proxies.items setup.now.script
+        (check_lines setup.now.remarks setup.now.proxies.items setup.now.script
         (runs_named setup.now.proxies.items trees.now)) }
 {
-    let first = print_proxies(printer, &setup.proxies)?;
+    let first = print_file(alloc, printer, &setup.remarks, &setup.proxies)?;
     let others = print_rules(alloc, printer, setup, trees, rules)?;
     Ok(first.saturating_add(others))
 }

@@ -5,6 +5,7 @@
 mod addresses;
 mod check;
 mod fault;
+mod file_lines;
 mod forecast;
 mod idleness;
 mod listed;

@@ -105,7 +105,7 @@ fn print_own<'a, W: Sink>(
 }
 
 /// Prints a line, and counts it.
-fn print_line<W: Sink>(
+pub(crate) fn print_line<W: Sink>(
     printer: &mut Printer<'_, W>,
     parts: &[Part<'_>],
 ) -> Result<u64, PrintPickFault>

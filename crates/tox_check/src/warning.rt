@@ -77,7 +77,10 @@ fn print_unknown<W: Sink>(
 }
 
 /// Prints the name of a near proxy, if there is one, and the line's end.
-fn print_near<W: Sink>(printer: &mut Printer<'_, W>, near: Option<&str>) -> Result<(), EndFault>
+pub(crate) fn print_near<W: Sink>(
+    printer: &mut Printer<'_, W>,
+    near: Option<&str>,
+) -> Result<(), EndFault>
     requires { IsWorking W.Sink printer.old }
     ensures { Prints W.Sink result printer.old printer.new (near_text (option_map (λ near. near.now) near.entry)) }
 {

@@ -1,4 +1,5 @@
 pub mod Distinct
+pub mod LastColon
 pub mod Limits
 pub mod Names
 pub mod Ports

@@ -1,27 +1,14 @@
 -- What the last colon tells of a port.
-use Rattle.std.proofs.Common.{◌≡◌, ℕ, ◌+◌, ◌-◌, ◌<◌, ◌≤◌, ◌≢◌, true, false, not, List, length, drop, get_or, arith, refl, sym, ap, ◌∙◌, length-drop}
-use Rattle.std.specs.List.{after_last, list_any, suffix_len}
+use Rattle.std.proofs.Common.{◌≡◌, ℕ, ◌+◌, ◌≤◌, true, false, List, length, drop, get_or, arith, refl, ◌∙◌}
+use Rattle.std.specs.List.{after_last, list_any}
 use Rattle.std.specs.Str.{NoCharPasses}
 use Rattle.std.specs.Str.Pattern.{HasCharAt}
-use Rattle.std.proofs.lemmas.Bool.Decides.{nat_tests}
-use Rattle.std.proofs.lemmas.List.{get_or-drop, get_or_default}
+use Rattle.std.proofs.lemmas.List.{get_or_default}
 use Rattle.std.proofs.lemmas.List.Folds.{list_any_at, list_any_none}
-use Rattle.std.proofs.lemmas.List.Sums.{suffix_len_is}
 use Rattle.std.proofs.lemmas.Str.Pattern.{NoCharPasses-char}
 use Rattle.tox_time.specs.Text.{is_colon}
 use Rattle.tox_config.specs.Address.{ends_in_port, is_port}
-
--- a byte that is no colon
-is_colon-other : (byte : ℕ) → byte ≢ 58 → is_colon byte ≡ false
-is_colon-other byte other = grind (arith, nat_tests)
-
--- behind j no byte is a colon
-passes_behind : (text : List ℕ) (j k : ℕ) → NoCharPasses is_colon (drop j text) → j ≤ k → k < length text → not (is_colon (get_or text k 0)) ≡ true
-passes_behind text j k none from within =
-    let back : j + (k - j) ≡ k = omega arith in
-    let read : get_or (drop j text) (k - j) 0 ≡ get_or text k 0 = get_or-drop j text (k - j) 0 ∙ ap (λ n. get_or text n 0) back in
-    let other = NoCharPasses-char 58 (drop j text) (k - j) none (omega arith) (omega (arith, length-drop j text)) in
-    ap not (is_colon-other (get_or text k 0) (λ e. other (read ∙ e)))
+use Rattle.tox_config.proofs.LastColon.{after_last-found, is_colon-other}
 
 -- what follows the last colon, where `rsplit_once` found it
 pub ends_in_port-found : (text port : List ℕ) (i j : ℕ) → NoCharPasses is_colon (drop j text) × HasCharAt 58 text i j → port ≡ drop j text
@@ -30,11 +17,7 @@ ends_in_port-found text port i j found cut whole =
     let after : j ≡ i + 1 = found.1.ends in
     let colon : get_or text i 0 ≡ 58 = found.1.byte (omega arith) in
     let any : list_any is_colon text ≡ true = list_any_at is_colon text i 0 (omega arith) (rw colon refl) in
-    let before : get_or text (j - 1) 0 ≡ 58 = ap (λ n. get_or text n 0) (omega arith) ∙ colon in
-    let long : suffix_len (λ byte. not (is_colon byte)) text ≡ length text - j =
-    suffix_len_is (λ byte. not (is_colon byte)) text j 0 (omega arith) (λ k from within. passes_behind text j k found.0 from within) (λ _. rw before refl) in
-    let start : length text - (length text - j) ≡ j = omega arith in
-    let port_there : after_last is_colon text ≡ port = rw (long, start) (sym cut) in
+    let port_there : after_last is_colon text ≡ port = after_last-found text port i j found cut whole in
     rw (any, port_there) refl
 
 -- a text in which `rsplit_once` found no colon

@@ -3,3 +3,4 @@ pub mod Address
 pub mod Proxy
 pub mod Populate
 pub mod LentProxy
+pub mod Remarks

@@ -58,7 +58,7 @@ impl<'a> LentProxy<'a> {
 }
 
 /// The name. None if it is absent or isn't a text of 1 to 255 bytes.
-fn proxy_name(value: &Value) -> Option<&str>
+pub(crate) fn proxy_name(value: &Value) -> Option<&str>
     ensures { option_map (λ name. name.now) result ≡ proxy_name (view value.now) }
 {
     let name = value.get("name")?.as_str()?;

@@ -44,7 +44,7 @@ pub fn read_populate(alloc: Global, bytes: &[u8]) -> Result<Vec<ProxyDef>, Confi
 }
 
 /// The value of a JSON text.
-fn read_json(alloc: Global, bytes: &[u8]) -> Result<Value, ConfigFault>
+pub(crate) fn read_json(alloc: Global, bytes: &[u8]) -> Result<Value, ConfigFault>
     ensures ok { IfOk result (λ value. json_of bytes.now ≡ Some (view value)) }
     ensures err { IfErr result (λ fault. fault ≢ OutOfMemory
         → (fault ≡ NotJson) × (json_of bytes.now ≡ None)) }

@@ -42,16 +42,18 @@ pub fn read_file<'a, F: Files>(
     let Ok(file) = fs::open(rt, name) else {
         return Err(FileFault::Unreadable(name));
     };
-    read_named(alloc, &mut Real::new(file), name)
+    read_opened(alloc, &mut Real::new(file), name)
 }
 
-/// The bytes that a file has still to give.
-fn read_named<'a, R: Source>(
+/// The bytes that the opened file of this name has still to give, of which at most one more than [`MAX_INPUT`] are read.
+pub fn read_opened<'a, R: Source>(
     alloc: Global,
     reader: &mut R,
     name: &'a str,
 ) -> Result<Vec<u8>, FileFault<'a>>
     requires { R.failed reader.old ≡ false }
+    ensures file { IfOk result (λ bytes. IsFileOf None bytes.items) }
+    ensures named { IfErr result (IsFileFault None name.now) }
     ensures ok { IfOk result
         (λ bytes. ReadsWhole (R.remaining reader.old) (R.remaining reader.new) bytes.items) }
     ensures fault { IfErr result

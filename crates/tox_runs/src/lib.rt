@@ -9,7 +9,7 @@ pub use files::named_files::{MemoryFiles, NamedFiles, RealFiles};
 pub use files::pick_request::{PickFault, PickRequest};
 pub use files::setup::{Setup, SetupFault, read_setup};
 pub use files::toxics::{ToxicsFault, read_chain};
-pub use files::{FileFault, read_file};
+pub use files::{FileFault, read_file, read_opened};
 pub use runs::dry::dry_run;
 pub use runs::fault::StagesFault;
 pub use runs::stages::stages_run;

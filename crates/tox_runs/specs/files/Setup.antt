@@ -4,6 +4,7 @@ use Rattle.std.specs.Str.{is_utf8}
 use Rattle.tox_config.specs.ConfigFaults.{IsConfigFault}
 use Rattle.tox_config.specs.Populate.{populate}
 use Rattle.tox_config.specs.Proxy.{Proxy}
+use Rattle.tox_config.specs.Remarks.{IsNoted, Noted}
 use Rattle.tox_config.specs.declared.fault.ConfigFault.{ConfigFault}
 use Rattle.tox_config.specs.declared.fault.ConfigFault.TheVariants as config
 use Rattle.tox_script.specs.Rule.{Rules}
@@ -20,6 +21,12 @@ pub record Populates (file : KnownFile) (proxies : List Proxy) : Type 0 where
   pub bytes : List ℕ
   pub read : IsFileOf file bytes
   pub populated : populate bytes ≡ Ok proxies
+
+-- the file was read, and this is noted of it, which defines these proxies
+pub record Notes (file : KnownFile) (proxies : List Proxy) (noted : Noted) : Type 0 where
+  pub bytes : List ℕ
+  pub read : IsFileOf file bytes
+  pub noted_of : IsNoted bytes proxies noted
 
 -- the file was read and is this script
 pub record Scripts (file : KnownFile) (rules : Rules) : Type 0 where

@@ -1,18 +1,19 @@
 //! What a populate file and a script file set up.
 ghost use Rattle.std.specs.Prelude.{◌≡◌, IfOk, IfErr};
-ghost use Rattle.tox_runs.specs.files.Setup.{HasConfigCause, HasScriptCause, HasSetupCause, IsSetUp, Populates, Scripts};
+ghost use Rattle.tox_runs.specs.files.Setup.{HasConfigCause, HasScriptCause, HasSetupCause, IsSetUp, Notes, Populates, Scripts};
 
 use crate::files::FileFault;
 use crate::files::named_files::NamedFiles;
 use std::alloc::Global;
 use thiserror::Error;
-use tox_config::{ConfigFault, ProxyDef, read_populate};
+use tox_config::{ConfigFault, ProxyDef, Remarks, read_populate, read_remarks};
 use tox_script::{Script, ScriptFault, read_script};
 
-/// The proxies of a populate file, and the script of a script file.
+/// The proxies of a populate file with what is noted of it, and the script of a script file.
 #[derive(Drop)]
 pub struct Setup {
     pub proxies: Vec<ProxyDef>,
+    pub remarks: Remarks,
     pub script: Script,
 }
 
@@ -63,24 +64,34 @@ pub fn read_setup<'a, F: NamedFiles>(
     ensures ok { IfOk result
         (λ setup. IsSetUp (F.known files.now config.now) (F.known files.now script.now)
         setup.proxies.items setup.script) }
+    ensures noted { IfOk result
+        (λ setup. Notes (F.known files.now config.now) setup.proxies.items setup.remarks) }
     ensures fault { IfErr result (HasSetupCause (F.known files.now) config.now script.now) }
 {
-    let proxies = read_proxies(files, alloc, config)?;
+    let (proxies, remarks) = read_proxies(files, alloc, config)?;
     let script = read_rules(files, alloc, script)?;
-    Ok(Setup { proxies, script })
+    Ok(Setup {
+        proxies,
+        remarks,
+        script,
+    })
 }
 
+/// The proxies of a populate file, and what is noted of it.
 fn read_proxies<'a, F: NamedFiles>(
     files: &F,
     alloc: Global,
     name: &'a str,
-) -> Result<Vec<ProxyDef>, SetupFault<'a>>
-    ensures ok { IfOk result (λ proxies. Populates (F.known files.now name.now) proxies.items) }
+) -> Result<(Vec<ProxyDef>, Remarks), SetupFault<'a>>
+    ensures ok { IfOk result (λ read. Populates (F.known files.now name.now) read.0.items) }
+    ensures noted { IfOk result
+        (λ read. Notes (F.known files.now name.now) read.0.items read.1) }
     ensures fault { IfErr result (HasConfigCause (F.known files.now name.now) name.now) }
 {
     let bytes = files.read(alloc, name).map_err(SetupFault::ConfigFile)?;
     let proxies = read_populate(alloc, &bytes)?;
-    Ok(proxies)
+    let remarks = read_remarks(alloc, &bytes, &proxies)?;
+    Ok((proxies, remarks))
 }
 
 fn read_rules<'a, F: NamedFiles>(
