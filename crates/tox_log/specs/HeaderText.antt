@@ -1,6 +1,8 @@
 -- The header of a log: which stream of which link it is of, and the toxics that the stream meets.
-use Rattle.std.specs.Prelude.{ℕ, List, ◌++◌, codes, decimal, flat_map}
+use Rattle.std.specs.Prelude.{ℕ, List, ◌++◌, codes, decimal, flat_map, string_bytes}
 use Rattle.std.specs.List.{zip}
+use Rattle.std.specs.declared.alloc.Global.{Global}
+use Rattle.std.specs.declared.string.String.{String}
 use Rattle.tox_time.specs.declared.streams.stream.Stream.{Stream}
 use Rattle.tox_time.specs.streams.StreamName.{stream_name}
 use Rattle.tox_words.specs.declared.lanes.Lanes.{Lanes}
@@ -8,6 +10,7 @@ use Rattle.tox_words.specs.Draw.{lane_count}
 use Rattle.tox_defs.specs.chain.Chain.{Toxics}
 use Rattle.tox_defs.specs.short.Printed.{printed_short}
 use Rattle.tox_defs.specs.declared.chain.Entry.{Entry}
+use Rattle.tox_text.specs.Names.{visible_name}
 
 -- the first line
 abbrev pub title_line : List ℕ
@@ -23,7 +26,11 @@ abbrev pub seed_line : Lanes → ℕ → List ℕ
 seed_line lanes seed =
     codes "lanes " ++ decimal (lane_count lanes) ++ codes " seed " ++ decimal seed ++ codes "\n"
 
--- a toxic: its short form and its name
+-- a name, as it is printed
+abbrev pub printed_name : String Global → List ℕ
+printed_name name = visible_name (string_bytes name)
+
+-- a toxic: its short form and its name, as it is printed
 abbrev pub toxic_line : Entry → List ℕ → List ℕ
 toxic_line entry name =
     codes "toxic " ++ printed_short entry.toxic entry.toxicity ++ codes " " ++ name ++ codes "\n"

@@ -1,6 +1,7 @@
 -- The line that a judged log is printed as.
 use Rattle.std.specs.Prelude.{ℕ, Bool, true, false, List, [], ◌++◌, codes, decimal, string_bytes, Option, Some, None}
 use Rattle.tox_time.specs.streams.StreamName.{stream_name}
+use Rattle.tox_text.specs.Names.{visible_name}
 use Rattle.tox_text.specs.ResultText.{ending_words}
 use Rattle.tox_log.specs.declared.lateness.Percentiles.{Percentiles}
 use Rattle.tox_log.specs.declared.replay.JudgedLog.{JudgedLog}
@@ -11,7 +12,7 @@ use Rattle.tox_log.specs.JudgedObject.{verdict_word}
 -- the verdict, and which stream of which link the log is of
 abbrev pub stream_text : JudgedLog → List ℕ
 stream_text log =
-    verdict_word log.verdict ++ codes " " ++ string_bytes log.heading.proxy ++ codes " " ++ decimal log.heading.number
+    verdict_word log.verdict ++ codes " " ++ visible_name (string_bytes log.heading.proxy) ++ codes " " ++ decimal log.heading.number
     ++ codes " " ++ stream_name log.heading.stream
 
 -- how many bytes were heard and said

@@ -1,8 +1,8 @@
 //! The header of a log.
-ghost use Rattle.std.specs.Prelude.{◌≡◌, length, map, string_bytes};
+ghost use Rattle.std.specs.Prelude.{◌≡◌, length, map};
 ghost use Rattle.tox_text.specs.Names.{visible_name};
 ghost use Rattle.tox_text.specs.Printing.{IsWorking, Prints};
-ghost use Rattle.tox_log.specs.HeaderText.{header_text, heading_lines, toxic_line, toxic_lines};
+ghost use Rattle.tox_log.specs.HeaderText.{header_text, heading_lines, printed_name, toxic_line, toxic_lines};
 
 use tox_defs::{Chain, Entry};
 use tox_text::Part::{Name, Number, Word};
@@ -32,7 +32,7 @@ pub fn print_header<W: Sink>(
     requires one_each { length names.now ≡ length chain.now.entries }
     ensures { Prints W.Sink result printer.old printer.new
         (header_text (visible_name link.now.proxy.now) link.now.number link.now.stream
-        link.now.seed chain.now (map string_bytes names.now)) }
+        link.now.seed chain.now (map printed_name names.now)) }
 {
     print_heading(printer, link, chain.lanes())?;
     print_toxics(printer, chain.entries(), names)
@@ -75,7 +75,7 @@ fn print_toxics<W: Sink>(
 ) -> Result<(), EndFault>
     requires working { IsWorking W.Sink printer.old }
     requires one_each { length names.now ≡ length entries.now }
-    ensures { Prints W.Sink result printer.old printer.new (toxic_lines entries.now (map string_bytes names.now)) }
+    ensures { Prints W.Sink result printer.old printer.new (toxic_lines entries.now (map printed_name names.now)) }
 {
     for (place, entry) in entries.iter().enumerate() {
         print_toxic(printer, entry, &names[place])?;
@@ -90,9 +90,9 @@ fn print_toxic<W: Sink>(
     name: &str,
 ) -> Result<(), EndFault>
     requires { IsWorking W.Sink printer.old }
-    ensures { Prints W.Sink result printer.old printer.new (toxic_line entry.now name.now) }
+    ensures { Prints W.Sink result printer.old printer.new (toxic_line entry.now (visible_name name.now)) }
 {
     printer.print(&[Word("toxic ")])?;
     print_short(printer, entry)?;
-    printer.print(&[Word(" "), Word(name), Word("\n")])
+    printer.print(&[Word(" "), Name(name), Word("\n")])
 }

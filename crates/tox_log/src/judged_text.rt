@@ -11,7 +11,7 @@ use crate::fault::ReplayFault;
 use crate::lateness::Percentiles;
 use crate::replay::{JudgedLog, Verdict, judge_log};
 use std::alloc::Global;
-use tox_text::Part::{Number, Word};
+use tox_text::Part::{Name, Number, Word};
 use tox_text::Printer;
 use tox_time::{EndFault, Ending, Sink, Source};
 
@@ -70,7 +70,7 @@ fn print_stream<W: Sink>(printer: &mut Printer<'_, W>, log: &JudgedLog) -> Resul
     let parts = [
         Word(verdict_word(&log.verdict)),
         Word(" "),
-        Word(&log.heading.proxy),
+        Name(&log.heading.proxy),
         Word(" "),
         Number(log.heading.number),
         Word(" "),

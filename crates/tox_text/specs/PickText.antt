@@ -34,7 +34,7 @@ applied_word false = codes "skipped"
 abbrev pub picked_toxic_line : Draws → ℕ → Entry → List ℕ → List ℕ
 picked_toxic_line draws place entry name =
     decimal place ++ codes " " ++ applied_word (is_applied entry place draws) ++ codes " "
-    ++ printed_short entry.toxic entry.toxicity ++ codes " " ++ name ++ codes "\n"
+    ++ printed_short entry.toxic entry.toxicity ++ codes " " ++ visible_name name ++ codes "\n"
 
 -- the lines of named toxics, in order
 abbrev pub toxics_text : Draws → List Entry → List (List ℕ) → List ℕ

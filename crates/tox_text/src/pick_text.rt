@@ -156,7 +156,7 @@ fn print_toxic<W: Sink>(
 {
     print_place(printer, place, entry.is_applied(place, drawing))?;
     print_short(printer, entry)?;
-    printer.print(&[Word(" "), Word(name), Word("\n")])
+    printer.print(&[Word(" "), Name(name), Word("\n")])
 }
 
 /// Prints a place of a chain, and whether its toxic is applied.

@@ -2,12 +2,13 @@
 use Rattle.std.proofs.Common.{◌≡◌, ℕ, ◌≤◌, Bool, List, [], ◌∷◌, ◌++◌, codes, decimal, length, drop, get_or, append_assoc, arith, refl, ap, ◌∙◌}
 use Rattle.tox_time.specs.declared.streams.stream.Stream.{Stream}
 use Rattle.tox_script.specs.declared.chains.Chains.{Chains}
+use Rattle.tox_text.specs.Names.{visible_name}
 use Rattle.tox_check.specs.forecast.Totals.{Totals, place_on, places_after, rule_totals, total_line, toxic_total, toxic_totals}
 use Rattle.tox_check.specs.declared.forecast.totals.places.Places.{Places}
 
 pub total_line-parts : (rule number applied met : ℕ) (name : List ℕ)
     → codes "rule " ++ (decimal rule ++ (codes " toxic " ++ (decimal number
-    ++ (codes " applied " ++ (decimal applied ++ (codes " of " ++ (decimal met ++ (codes " " ++ (name ++ codes "\n")))))))))
+    ++ (codes " applied " ++ (decimal applied ++ (codes " of " ++ (decimal met ++ (codes " " ++ (visible_name name ++ codes "\n")))))))))
     ≡ total_line rule number applied met name
 total_line-parts rule number applied met name = simp append_assoc
 

@@ -7,6 +7,7 @@ use Rattle.tox_script.specs.Rule.{Rules}
 use Rattle.tox_script.specs.chains.Chains.{on}
 use Rattle.tox_script.specs.declared.chains.Chains.{Chains}
 use Rattle.tox_script.specs.index.Numbered.{covering_number}
+use Rattle.tox_text.specs.Names.{visible_name}
 use Rattle.tox_check.specs.forecast.Applied.{flag_at, flags_for}
 use Rattle.tox_check.specs.forecast.Objects.{total_object}
 use Rattle.tox_check.specs.declared.forecast.totals.places.Places.{Places}
@@ -62,7 +63,7 @@ placed_from at (stream ∷ order) =
 abbrev pub total_line : ℕ → ℕ → ℕ → ℕ → List ℕ → List ℕ
 total_line rule number applied met name =
     codes "rule " ++ decimal rule ++ codes " toxic " ++ decimal number ++ codes " applied "
-    ++ decimal applied ++ codes " of " ++ decimal met ++ codes " " ++ name ++ codes "\n"
+    ++ decimal applied ++ codes " of " ++ decimal met ++ codes " " ++ visible_name name ++ codes "\n"
 
 -- the line of a toxic, in words or as an object of JSON
 abbrev pub total_in : Bool → List ℕ → ℕ → ℕ → ℕ → ℕ → List ℕ → List ℕ

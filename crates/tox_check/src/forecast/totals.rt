@@ -10,7 +10,7 @@ use crate::forecast::object::print_total_object;
 use crate::forecast::tally::Tally;
 use crate::forecast::totals::places::Places;
 use tox_script::{Chains, NamedChain};
-use tox_text::Part::{Number, Word};
+use tox_text::Part::{Name, Number, Word};
 use tox_text::Printer;
 use tox_time::{EndFault, Sink, Stream};
 
@@ -146,7 +146,7 @@ fn print_words<W: Sink>(printer: &mut Printer<'_, W>, total: &Total<'_>) -> Resu
         Word(" of "),
         Number(total.met),
         Word(" "),
-        Word(total.name),
+        Name(total.name),
         Word("\n"),
     ];
     printer.print(&parts)

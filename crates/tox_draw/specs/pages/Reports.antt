@@ -2,6 +2,7 @@
 use Rattle.std.specs.Prelude.{◌≡◌, ℕ, Bool, true, false, List, [], ◌∷◌, ◌++◌, codes, Option, string_bytes}
 use Rattle.tox_words.specs.Seeded.{seeded_words}
 use Rattle.tox_defs.specs.Flow.{chain_draws}
+use Rattle.tox_text.specs.Names.{visible_name}
 use Rattle.tox_log.specs.declared.fault.ReplayFault.{ReplayFault}
 use Rattle.tox_log.specs.declared.fault.ReplayFault.TheVariants.{OutOfMemory}
 use Rattle.tox_log.specs.declared.replay.JudgedLog.{JudgedLog}
@@ -36,7 +37,7 @@ chosen_of log applied =
 
 -- what a judged log says of its stream
 pub record IsStreamOf (log : JudgedLog) (facts : StreamFacts) : Type 0 where
-  pub proxy : string_bytes facts.proxy ≡ string_bytes log.heading.proxy
+  pub proxy : string_bytes facts.proxy ≡ visible_name (string_bytes log.heading.proxy)
   pub link : facts.link ≡ log.heading.number
   pub stream : facts.stream ≡ log.heading.stream
   pub seed : facts.seed ≡ log.heading.seed

@@ -8,6 +8,7 @@ use crate::pages::row::StreamFacts;
 use crate::pages::stream_end::{StreamEnd, cutter_of};
 use std::alloc::{AllocError, Global};
 use tox_log::JudgedLog;
+use tox_text::VisibleName;
 use tox_words::Words;
 
 /// What a judged log says of its stream.
@@ -21,7 +22,7 @@ pub(crate) fn facts_of(alloc: Global, log: &JudgedLog) -> Result<StreamFacts, Al
     let outcome = Outcome::of(log);
     let cutter = cutter_of(&log.chain, &words);
     Ok(StreamFacts {
-        proxy: heading.proxy.clone()?,
+        proxy: format!(in alloc; "{}", VisibleName(heading.proxy.as_str()))?,
         link: heading.number,
         stream: heading.stream,
         seed: heading.seed,

@@ -24,6 +24,7 @@ pub(crate) struct Refusal {
 /// What a log says of its stream.
 #[derive(Drop)]
 pub(crate) struct StreamFacts {
+    /// The proxy's name, as it is printed.
     pub(crate) proxy: String,
     /// The link's number.
     pub(crate) link: u64,

@@ -27,9 +27,9 @@ abbrev pub applied_names : Draws → List Entry → List (List ℕ) → List (Li
 applied_names draws entries names =
     flat_map (applied_name draws) (enumerate_from 0 (zip entries names))
 
--- a name behind a space
+-- a name behind a space, as it is printed
 abbrev pub spaced : Bor (List ℕ) → List ℕ
-spaced name = codes " " ++ name.now
+spaced name = codes " " ++ visible_name name.now
 
 -- a stream, its client, and the toxics that it meets
 abbrev pub open_line : OpenStream → List ℕ

@@ -94,7 +94,7 @@ fn add_names(line: &mut LineText, names: &[&str]) -> Option<()>
         (6144 < length (line.old.bytes.items ++ flat_map spaced names.now)) }
 {
     for name in names {
-        line.add(&[Word(" "), Word(name)])?;
+        line.add(&[Word(" "), Name(name)])?;
     }
     Some(())
 }

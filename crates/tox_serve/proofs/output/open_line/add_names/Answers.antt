@@ -4,6 +4,7 @@ use Rattle.std.proofs.Common.{◌≡◌, ℕ, ◌<◌, List, [], ◌∷◌, ◌+
 use Rattle.std.proofs.Common.{ap, sym, ◌∙◌, arith}
 use Rattle.std.proofs.lemmas.Grind.{flat_map-append}
 use Rattle.std.proofs.lemmas.List.{take-append-drop}
+use Rattle.tox_text.specs.Names.{visible_name}
 use Rattle.tox_serve.specs.output.OpenLine.{spaced}
 use Rattle.tox_serve.proofs.output.open_line.add_names.Goals as goal
 
@@ -12,7 +13,7 @@ if-none None P holds = holds
 if-none (Some x) P holds = tt
 
 longer : (line old : List ℕ) (names : List (Bor (List ℕ))) (i : ℕ) (d : Bor (List ℕ)) → i < length names → line ≡ old ++ flat_map spaced (take i names)
-    → 6144 < length (line ++ 32 ∷ ((get_or names i d).now ++ [])) → 6144 < length (old ++ flat_map spaced names)
+    → 6144 < length (line ++ 32 ∷ (visible_name (get_or names i d).now ++ [])) → 6144 < length (old ++ flat_map spaced names)
 longer line old names i d here is long =
     let name : Bor (List ℕ) = get_or names i d in
     let front = flat_map spaced (take i names) in
@@ -20,8 +21,8 @@ longer line old names i d here is long =
     let whole : flat_map spaced names ≡ front ++ (spaced name ++ back) =
     ap (flat_map spaced) (sym (take-append-drop i names)) ∙ flat_map-append spaced (take i names) (drop i names)
     ∙ ap (λ names. front ++ flat_map spaced names) (drop-cons names i d here) in
-    let a = length-append line (32 ∷ (name.now ++ [])) in
-    let b = length-append name.now [] in
+    let a = length-append line (32 ∷ (visible_name name.now ++ [])) in
+    let b = length-append (visible_name name.now) [] in
     let c = ap length is ∙ length-append old front in
     let e = length-append old (flat_map spaced names) in
     let f = ap length whole ∙ length-append front (spaced name ++ back) in

@@ -1,14 +1,27 @@
 -- What the files say answers the question.
-use Rattle.std.proofs.Common.{◌≡◌, ◌∙◌, Some, ap, rules}
+use Rattle.std.proofs.Common.{◌≡◌, ℕ, List, Option, None, ◌∙◌, Some, ap, rules}
+use Rattle.std.specs.Borrow.{Bor}
 use Rattle.std.specs.List.{find}
 use Rattle.std.proofs.lemmas.Result.{err_from_is_err_and}
 use Rattle.tox_config.specs.Populate.{is_named}
 use Rattle.tox_config.specs.Proxy.{Proxy}
 use Rattle.tox_runs.specs.files.Setup.{IsSetUp}
-use Rattle.tox_check.specs.forecast.Asked.{AsksFor}
+use Rattle.tox_time.specs.declared.streams.stream.Stream.{Stream}
+use Rattle.tox_check.specs.forecast.Asked.{AsksFor, IsBadStream}
 use Rattle.tox_check.specs.forecast.ForecastText.{forecast_text}
 use Rattle.tox_check.specs.forecast.Forecasting.{Forecasts, question_of}
 use Rattle.tox_check.proofs.forecast.request.ForecastRequest.answer.Goals as goal
+
+-- what a name asks for is no bad stream
+asked-good : (name : Option (Bor (List ℕ))) (asked : Option Stream) → AsksFor name asked → IsBadStream name → ⊥
+asked-good None asked asks bad = bad
+asked-good (Some name) asked asks bad = let found = asks.1 in cc
+
+pub returns-in_err-print_forecast-clause-stream_first : goal.returns-in_err-print_forecast-clause-stream_first
+returns-in_err-print_forecast-clause-stream_first g c = λ bad. absurd (asked-good c.args.self.now.stream c.in_ok-stream.stream c.in_ok-stream.ensures.ok bad)
+
+pub returns-clause-stream_first : goal.returns-clause-stream_first
+returns-clause-stream_first g c = λ bad. absurd (asked-good c.args.self.now.stream c.in_ok-stream.stream c.in_ok-stream.ensures.ok bad)
 
 pub returns-in_err-print_forecast-clause-fault : goal.returns-in_err-print_forecast-clause-fault
 returns-in_err-print_forecast-clause-fault g c =
