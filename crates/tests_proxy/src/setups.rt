@@ -1,6 +1,6 @@
 //! Setups that tests write down as texts.
 use std::process::Abort;
-use tox_config::read_populate;
+use tox_config::{read_populate, read_remarks};
 use tox_proxy::Setup;
 use tox_script::{Script, read_script};
 
@@ -11,8 +11,11 @@ pub fn script_of(rt: &(impl Abort + AllocGlobal), script: &[u8]) -> Script {
 
 /// The setup of a config and a script.
 pub fn setup_of(rt: &(impl Abort + AllocGlobal), config: &str, script: &[u8]) -> Setup {
+    let proxies = read_populate(rt.alloc(), config.as_bytes()).expect(rt, "a config");
+    let remarks = read_remarks(rt.alloc(), config.as_bytes(), &proxies).expect(rt, "a config");
     Setup {
-        proxies: read_populate(rt.alloc(), config.as_bytes()).expect(rt, "a config"),
+        proxies,
+        remarks,
         script: script_of(rt, script),
     }
 }

@@ -1,6 +1,6 @@
 //! An argument of a command: a row of the command's table, and how it is given to `clap`.
+use crate::takes::{Absent, Takes};
 use crate::value_kind::ValueKind;
-use clap::builder::ValueParser;
 use clap::{Arg, ArgAction};
 use std::alloc::{AllocError, Global};
 
@@ -16,20 +16,25 @@ pub struct Argument {
     pub value: &'static str,
     /// What a value names.
     pub kind: ValueKind,
+    /// What it is for. The help tells its range and what holds without it behind these words.
     pub help: &'static str,
     /// Of an option of the program: whether each command has it too.
     pub shared: bool,
     /// What a value may be.
-    pub(crate) reads: ValueParser<'static>,
+    pub takes: Takes,
+    /// What holds without it.
+    pub absent: Absent,
+    /// The variable of the environment that stands in for it. Empty: none does.
+    pub environment: &'static str,
     /// The fewest values that one use takes.
-    pub(crate) least: usize,
+    pub(crate) fewest: usize,
     /// The most values that one use takes.
     pub(crate) most: usize,
     pub(crate) action: ArgAction,
     /// Whether it must be there.
     pub needed: bool,
     /// It must be there unless one of these is. Empty: it may always be absent.
-    pub(crate) unless: &'static [&'static str],
+    pub unless: &'static [&'static str],
     /// It can't stand beside these.
     pub(crate) without: &'static [&'static str],
     /// It can't stand without these.
@@ -45,8 +50,10 @@ pub(crate) const OPTION: Argument = Argument {
     kind: ValueKind::Plain,
     help: "",
     shared: false,
-    reads: ValueParser::String,
-    least: 1,
+    takes: Takes::Text,
+    absent: Absent::Untold,
+    environment: "",
+    fewest: 1,
     most: 1,
     action: ArgAction::Set,
     needed: false,
@@ -63,8 +70,8 @@ pub(crate) const OPTIONS: Argument = Argument {
 
 /// An option without a value.
 pub(crate) const FLAG: Argument = Argument {
-    reads: ValueParser::Bool,
-    least: 0,
+    takes: Takes::Nothing,
+    fewest: 0,
     most: 0,
     action: ArgAction::SetTrue,
     ..OPTION
@@ -78,7 +85,7 @@ pub(crate) const PLACE: Argument = Argument {
 
 /// Texts without an option, as many as there are.
 pub(crate) const PLACES: Argument = Argument {
-    least: 0,
+    fewest: 0,
     most: usize::MAX,
     action: ArgAction::Append,
     ..PLACE
@@ -92,19 +99,19 @@ impl Argument {
 
     /// The names that a value may be. Empty: they aren't listed.
     pub fn names(&self) -> &'static [&'static str] {
-        match self.reads {
-            ValueParser::Names(names) => names,
+        match self.takes {
+            Takes::Names(names) => names,
             _ => &[],
         }
     }
 
-    /// The argument as `clap` has it.
-    pub(crate) fn arg<'a>(&self, alloc: Global) -> Result<Arg<'a>, AllocError> {
+    /// The argument as `clap` has it, with this line of help.
+    pub(crate) fn arg<'a>(&self, alloc: Global, help: &'a str) -> Result<Arg<'a>, AllocError> {
         let arg = Arg::new(alloc, self.name)
-            .help(self.help)
+            .help(help)
             .value_name(self.value)
-            .value_parser(self.reads)
-            .num_args(self.least..=self.most)
+            .value_parser(self.takes.parser())
+            .num_args(self.fewest..=self.most)
             .action(self.action)
             .required(self.needed);
         let arg = if self.dashed {

@@ -2,9 +2,9 @@
 ghost use Rattle.std.specs.Prelude.{◌≤◌};
 
 use crate::argument::{Argument, FLAG, OPTION, PLACES};
+use crate::takes::{NumberRange, Takes};
 use crate::value_kind::ValueKind;
 use clap::ArgMatches;
-use clap::builder::ValueParser;
 use std::alloc::{AllocError, Global};
 use tox_words::MAX_CONNECTIONS;
 
@@ -37,8 +37,12 @@ pub(crate) const PROXY: Argument = Argument {
 pub(crate) const SEED: Argument = Argument {
     name: "seed",
     value: "N",
-    help: "What the random words are made from, 0 to 2^64 - 1",
-    reads: ValueParser::Unsigned(0, u64::MAX),
+    help: "What the random words are made from",
+    takes: Takes::Number(NumberRange {
+        least: 0,
+        most: u64::MAX,
+        unit: "",
+    }),
     needed: true,
     ..OPTION
 };
@@ -49,7 +53,11 @@ pub(crate) const MAX_CONNECT_TIMEOUT: u64 = 600_000;
 /// An option with a number of connections.
 pub(crate) const CONNECTIONS: Argument = Argument {
     value: "N",
-    reads: ValueParser::Unsigned(1, MAX_CONNECTIONS),
+    takes: Takes::Number(NumberRange {
+        least: 1,
+        most: MAX_CONNECTIONS,
+        unit: "connections",
+    }),
     ..OPTION
 };
 
@@ -65,7 +73,7 @@ pub(crate) const FILES: Argument = Argument {
     value: "FILE",
     kind: ValueKind::File,
     help: "The logs; - takes their names from standard input, one a line",
-    least: 1,
+    fewest: 1,
     needed: true,
     ..PLACES
 };

@@ -1,5 +1,6 @@
 //! A command: its name, what its help says, and its arguments.
 use crate::argument::Argument;
+use crate::argument_help::CommandLines;
 use clap::Command;
 use std::alloc::{AllocError, Global};
 
@@ -15,13 +16,21 @@ pub struct CommandForm {
 }
 
 impl CommandForm {
-    /// The command as `clap` has it.
-    pub(crate) fn command<'a>(&self, alloc: Global) -> Result<Command<'a>, AllocError> {
+    /// The command as `clap` has it, with the lines of its arguments. Where these are absent an argument shows its words alone.
+    pub(crate) fn command<'a>(
+        &self,
+        alloc: Global,
+        lines: Option<&'a CommandLines>,
+    ) -> Result<Command<'a>, AllocError> {
         let mut command = Command::new(alloc, self.name)
             .about(self.about)
             .after_help(self.examples);
-        for argument in self.arguments {
-            command = command.arg(argument.arg(alloc)?)?;
+        for (place, argument) in self.arguments.iter().enumerate() {
+            let help = match lines.and_then(|lines| lines.arguments.get(place)) {
+                Some(line) => line.as_str(),
+                None => argument.help,
+            };
+            command = command.arg(argument.arg(alloc, help)?)?;
         }
         Ok(command)
     }

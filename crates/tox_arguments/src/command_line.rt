@@ -1,4 +1,5 @@
 //! The command line, as `clap` reads it: which task it asks for, and how it is refused.
+use crate::argument_help::HelpLines;
 use crate::check::check_task;
 use crate::commands::{explain_of, toxi, toxi_with_arguments};
 use crate::forecast::forecast_task;
@@ -27,7 +28,10 @@ pub enum Task<'a> {
     Plan(LinkArguments<'a>),
     Stages(Cap, LinkArguments<'a>),
     Check(CheckRequest<'a>),
-    Pick(PickRequest<'a>),
+    Pick {
+        request: PickRequest<'a>,
+        verbose: bool,
+    },
     Forecast(ForecastRequest<'a>),
     /// The name of a script file.
     Migrate(&'a str),
@@ -52,16 +56,24 @@ pub struct CommandLine<'a> {
 
 /// Reads the command line. An error is `clap`'s own text, help too.
 #[inline(never)]
-pub fn read<'a, S: AsStr>(alloc: Global, words: &'a [S]) -> Result<CommandLine<'a>, Error> {
-    let matches = matches_of(alloc, words)?;
+pub fn read<'a, S: AsStr>(
+    alloc: Global,
+    words: &'a [S],
+    lines: &'a HelpLines,
+) -> Result<CommandLine<'a>, Error> {
+    let matches = matches_of(alloc, words, lines)?;
     Ok(CommandLine {
-        task: task_of(alloc, &matches)?,
+        task: task_of(alloc, &matches, lines)?,
         explain: explain_of(&matches),
     })
 }
 
 /// The task of a command with its options.
-fn task_of<'a>(alloc: Global, matches: &ArgMatches<'a>) -> Result<Task<'a>, Error> {
+fn task_of<'a>(
+    alloc: Global,
+    matches: &ArgMatches<'a>,
+    lines: &HelpLines,
+) -> Result<Task<'a>, Error> {
     let Some((name, given)) = matches.subcommand() else {
         return Err(incomplete(alloc));
     };
@@ -76,7 +88,7 @@ fn task_of<'a>(alloc: Global, matches: &ArgMatches<'a>) -> Result<Task<'a>, Erro
         "wait" => wait_task(alloc, given),
         "replay" => replay_task(alloc, given),
         "report" => report_task(alloc, given),
-        "help" => help_task(alloc, given),
+        "help" => help_task(alloc, given, lines),
         "arguments" => Ok(Task::Arguments),
         _ => Err(incomplete(alloc)),
     }
@@ -86,11 +98,12 @@ fn task_of<'a>(alloc: Global, matches: &ArgMatches<'a>) -> Result<Task<'a>, Erro
 pub(crate) fn matches_of<'a, S: AsStr>(
     alloc: Global,
     words: &'a [S],
+    lines: &'a HelpLines,
 ) -> Result<ArgMatches<'a>, Error> {
     let toxi = if asks_for_table(words) {
-        toxi_with_arguments(alloc)?
+        toxi_with_arguments(alloc, Some(lines))?
     } else {
-        toxi(alloc)?
+        toxi(alloc, Some(lines))?
     };
     toxi.try_get_matches_from(words)
 }
@@ -115,7 +128,7 @@ pub(crate) fn incomplete(alloc: Global) -> Error {
 
 /// A refusal in `clap`'s form, with the program's usage.
 pub(crate) fn refusal(alloc: Global, kind: ErrorKind, why: &str) -> Error {
-    let refusal = match toxi(alloc) {
+    let refusal = match toxi(alloc, None) {
         Ok(mut toxi) => toxi.error(kind, why),
         Err(fault) => Err(fault),
     };

@@ -1,5 +1,6 @@
 //! The program's command line, as it is given to `clap`.
 use crate::argument::{Argument, FLAG};
+use crate::argument_help::{CommandLines, HelpLines};
 use crate::check::CHECK;
 use crate::command::CommandForm;
 use crate::forecast::FORECAST;
@@ -17,11 +18,12 @@ use clap::{ArgAction, ArgMatches, Command};
 use std::alloc::{AllocError, Global};
 
 /// The version, and the kit that proves and builds it.
-pub const VERSION: &str = "0.7.0 (rattle-kit-13f logic dac8208d650f15bf)";
+pub const VERSION: &str = "0.8.0 (rattle-kit-13f logic dac8208d650f15bf)";
 
 const EXPLAIN: Argument = Argument {
     name: "explain",
     help: "Explains a fault below its line, which is done on a terminal anyway",
+    environment: "TOXI_EXPLAIN",
     shared: true,
     ..FLAG
 };
@@ -66,35 +68,46 @@ pub(crate) fn explain_of(given: &ArgMatches<'_>) -> bool {
     behind || given.get_flag(EXPLAIN.name)
 }
 
-/// The program's command line.
-pub(crate) fn toxi<'a>(alloc: Global) -> Result<Command<'a>, AllocError> {
+/// The program's command line, with the lines of help where they may be shown.
+pub(crate) fn toxi<'a>(
+    alloc: Global,
+    lines: Option<&'a HelpLines>,
+) -> Result<Command<'a>, AllocError> {
     let mut toxi = PROGRAM
-        .command(alloc)?
+        .command(alloc, None)?
         .bin_name(PROGRAM.name)?
         .version(VERSION)
         .disable_help_flag(true)
         .disable_version_flag(true)
         .disable_help_subcommand(true)
         .subcommand_required(true);
-    for form in COMMANDS {
-        toxi = toxi.subcommand(command_of(alloc, form)?)?;
+    for (place, form) in COMMANDS.iter().enumerate() {
+        let lines = lines.and_then(|lines| lines.commands.get(place));
+        toxi = toxi.subcommand(command_of(alloc, form, lines)?)?;
     }
     Ok(toxi)
 }
 
 /// The program's command line with the hidden command, for words that ask for it. Where a command is missing, `clap` lists the hidden
 /// ones too.
-pub(crate) fn toxi_with_arguments<'a>(alloc: Global) -> Result<Command<'a>, AllocError> {
-    let arguments = command_of(alloc, &ARGUMENTS)?.hide(true);
-    toxi(alloc)?.subcommand(arguments)
+pub(crate) fn toxi_with_arguments<'a>(
+    alloc: Global,
+    lines: Option<&'a HelpLines>,
+) -> Result<Command<'a>, AllocError> {
+    let arguments = command_of(alloc, &ARGUMENTS, None)?.hide(true);
+    toxi(alloc, lines)?.subcommand(arguments)
 }
 
 /// A command with its arguments, and behind them those of the program that each command has.
-fn command_of<'a>(alloc: Global, form: &CommandForm) -> Result<Command<'a>, AllocError> {
-    let mut command = form.command(alloc)?;
+fn command_of<'a>(
+    alloc: Global,
+    form: &CommandForm,
+    lines: Option<&'a CommandLines>,
+) -> Result<Command<'a>, AllocError> {
+    let mut command = form.command(alloc, lines)?;
     for argument in PROGRAM.arguments {
         if argument.shared {
-            command = command.arg(argument.arg(alloc)?)?;
+            command = command.arg(argument.arg(alloc, argument.help)?)?;
         }
     }
     Ok(command)

@@ -19,7 +19,7 @@ pub(crate) const FORECAST: CommandForm = CommandForm {
         PROXY,
         Argument {
             name: "links",
-            help: "The number of connections, 1 to 1000000",
+            help: "The number of connections",
             needed: true,
             ..CONNECTIONS
         },

@@ -11,24 +11,7 @@ A fault is one line on standard error, and the status is then 1.";
 
 /// Below the options of `toxi dry`.
 pub const DRY: &str = "\
-A TOXIC is a type, or a type, a colon and pairs of a key and a number, separated by commas:
-
-  latency       latency=MS, jitter=MS   delays data by latency plus or minus jitter
-  bandwidth     rate=KB                 passes KB kilobytes (of 1000 bytes) a second; 1 to 1000000
-  slow_close    delay=MS                delays the closing
-  timeout       timeout=MS              drops all data, and closes after MS; never if MS is 0
-                from=MS                 begins at that time; until then all passes
-                after=BYTES             begins behind so many bytes; until then all passes; 0 to 1099511627776
-  reset_peer    timeout=MS              resets the connection after MS
-                after=BYTES             resets behind so many bytes, and not before; 0 to 1099511627776
-  slicer        average_size=BYTES      cuts data into pieces; 1 to 1000000
-                size_variation=BYTES    a piece has up to so many bytes more or fewer; below average_size
-                delay=MICROS            the wait before each piece; 0 to 3600000000
-  limit_data    bytes=BYTES             closes after so many bytes; 0 to 1099511627776
-
-latency, bandwidth and slicer also have until=MS and from=MS: what comes to them at or past the one, or before the other, passes whole
-and in order. An until, a from or an after of 0 is none. MS is 0 to 3600000 milliseconds. A key that is absent is 0.
-Every type also has toxicity=N, the chance in thousandths that a link meets the toxic: 0 to 1000 [default: 1000]
+`toxi help toxics` shows what a TOXIC is.
 
 The input has a line for each arrival, whose instant is in microseconds from the link's start, 0 to 10^15:
 
@@ -75,7 +58,7 @@ The output has a line for each operation that the toxics come to, in order, or `
                                           ends so at that instant or behind so many bytes; one of the two may be absent
 
 The lines of delay, pace and slicing end in ` until MS` where the operation stops then, and in ` from MS` where it begins then.
-A lane is the place, from 0, of the toxic whose words are drawn. `toxi dry --help` shows each toxic.
+A lane is the place, from 0, of the toxic whose words are drawn. `toxi help toxics` shows each toxic.
 
 Example:
   toxi plan latency:latency=10 slow_close latency:latency=1
@@ -236,14 +219,6 @@ Examples:
   toxi help serve
   toxi help toxics
   toxi help C5";
-
-/// The toxics, as the help of `toxi dry` begins.
-pub fn toxics() -> &'static str {
-    match DRY.split_once("\n\nThe input has") {
-        Some((toxics, _)) => toxics,
-        None => DRY,
-    }
-}
 
 /// What a script is.
 pub const SCRIPTS: &str = "\

@@ -4,8 +4,8 @@ use crate::arguments::strs_of;
 use crate::command::CommandForm;
 use crate::command_line::Task;
 use crate::help;
+use crate::takes::{Absent, NumberRange, Takes};
 use crate::value_kind::ValueKind;
-use clap::builder::ValueParser;
 use clap::{ArgMatches, Error};
 use std::alloc::{AllocError, Global};
 use tox_time::{Cap, MAX_CAP};
@@ -62,15 +62,17 @@ pub(crate) const STAGES: CommandForm = CommandForm {
 const LANES: Argument = Argument {
     name: "lanes",
     value: "L",
-    help: "How many lanes share the random words: 16 or 32 [default: 16]",
-    reads: ValueParser::Names(&["16", "32"]),
+    help: "How many lanes share the random words: 16 or 32",
+    takes: Takes::Names(&["16", "32"]),
+    absent: Absent::Number(16),
     ..OPTION
 };
 
 const WORDS: Argument = Argument {
     name: "words",
     value: "W",
-    help: "The random words: 1 to 4096 numbers up to 4294967295, separated by commas [default: 0]",
+    help: "The random words: 1 to 4096 numbers up to 4294967295, separated by commas",
+    absent: Absent::Number(0),
     ..OPTION
 };
 
@@ -94,8 +96,13 @@ const LOG: Argument = Argument {
 const CAP: Argument = Argument {
     name: "cap",
     value: "N",
-    help: "The room of each ring, in items: 1 to 1024 [default: 4]",
-    reads: ValueParser::Unsigned(1, MAX_CAP as u64),
+    help: "The room of each ring, in items",
+    takes: Takes::Number(NumberRange {
+        least: 1,
+        most: MAX_CAP as u64,
+        unit: "items",
+    }),
+    absent: Absent::Number(DEFAULT_CAP as u64),
     ..OPTION
 };
 

@@ -1,5 +1,5 @@
 //! The command `pick` and its options.
-use crate::argument::{Argument, OPTION};
+use crate::argument::{Argument, FLAG, OPTION};
 use crate::arguments::{CONFIG, CONNECTIONS, PROXY, SCRIPT, SEED, proxy_of};
 use crate::command::CommandForm;
 use crate::command_line::{Task, incomplete};
@@ -19,7 +19,7 @@ pub(crate) const PICK: CommandForm = CommandForm {
         PROXY,
         Argument {
             name: "conn",
-            help: "The number of the connection, 1 to 1000000",
+            help: "The number of the connection",
             needed: true,
             ..CONNECTIONS
         },
@@ -32,6 +32,11 @@ pub(crate) const PICK: CommandForm = CommandForm {
             ..OPTION
         },
         SEED,
+        Argument {
+            name: "verbose",
+            help: "Tells on standard error what each toxicity is in percent",
+            ..FLAG
+        },
     ],
 };
 
@@ -40,12 +45,16 @@ pub(crate) fn pick_task<'a>(alloc: Global, given: &ArgMatches<'a>) -> Result<Tas
     let Some((asked, stream)) = proxy_of(given, "conn").zip(given.get_str("stream")) else {
         return Err(incomplete(alloc));
     };
-    Ok(Task::Pick(PickRequest {
+    let request = PickRequest {
         config: asked.config,
         script: asked.script,
         proxy: asked.proxy,
         conn: asked.number,
         stream,
         seed: asked.seed,
-    }))
+    };
+    Ok(Task::Pick {
+        request,
+        verbose: given.get_flag("verbose"),
+    })
 }

@@ -4,7 +4,7 @@ use crate::arguments::{FILES, strs_of};
 use crate::command::CommandForm;
 use crate::command_line::Task;
 use crate::help;
-use clap::builder::ValueParser;
+use crate::takes::{Absent, NumberRange, Takes};
 use clap::{ArgMatches, Error};
 use std::alloc::Global;
 
@@ -36,14 +36,20 @@ pub(crate) const REPORT: CommandForm = CommandForm {
         Argument {
             name: "title",
             value: "TEXT",
-            help: "The title of the page [default: Toxi report]",
+            help: "The title of the page",
+            absent: Absent::Words(DEFAULT_TITLE),
             ..OPTION
         },
         Argument {
             name: "pictures",
             value: "N",
-            help: "How many of the first links have pictures, 0 to 1000000 [default: 100]",
-            reads: ValueParser::Unsigned(0, MAX_PICTURES),
+            help: "How many of the first links have pictures",
+            takes: Takes::Number(NumberRange {
+                least: 0,
+                most: MAX_PICTURES,
+                unit: "links",
+            }),
+            absent: Absent::Number(DEFAULT_PICTURES as u64),
             ..OPTION
         },
         FILES,

@@ -4,8 +4,8 @@ use crate::arguments::{CONFIG, CONNECTIONS, JSON, MAX_CONNECT_TIMEOUT, SCRIPT, S
 use crate::command::CommandForm;
 use crate::command_line::{Task, incomplete};
 use crate::help;
+use crate::takes::{Absent, NumberRange, Takes};
 use crate::value_kind::ValueKind;
-use clap::builder::ValueParser;
 use clap::{ArgMatches, Error};
 use std::alloc::{AllocError, Global};
 use tox_proxy::{Inline, InlineToxic, LineForm, LogLimits, ServeOptions};
@@ -143,14 +143,20 @@ pub(crate) const SERVE: CommandForm = CommandForm {
         // How links are served.
         Argument {
             name: "links",
-            help: "After how many connections each proxy stops listening, 1 to 1000000 [default: it goes on to 1000000]",
+            help: "After how many connections each proxy stops listening",
+            absent: Absent::Words("it goes on to 1000000"),
             ..CONNECTIONS
         },
         Argument {
             name: "connect-timeout",
             value: "MS",
-            help: "How many milliseconds a connect to an upstream may take, 1 to 600000 [default: the system's]",
-            reads: ValueParser::Unsigned(1, MAX_CONNECT_TIMEOUT),
+            help: "How many milliseconds a connect to an upstream may take",
+            takes: Takes::Number(NumberRange {
+                least: 1,
+                most: MAX_CONNECT_TIMEOUT,
+                unit: "milliseconds",
+            }),
+            absent: Absent::Words("the system's"),
             ..OPTION
         },
         Argument {
@@ -162,8 +168,13 @@ pub(crate) const SERVE: CommandForm = CommandForm {
         Argument {
             name: "workers",
             value: "N",
-            help: "How many threads drive all links, 1 to 64 [default: each link has four of its own]",
-            reads: ValueParser::Unsigned(1, MAX_WORKERS),
+            help: "How many threads drive all links",
+            takes: Takes::Number(NumberRange {
+                least: 1,
+                most: MAX_WORKERS,
+                unit: "threads",
+            }),
+            absent: Absent::Words("each link has four of its own"),
             ..OPTION
         },
         // What is logged and printed.
@@ -176,15 +187,21 @@ pub(crate) const SERVE: CommandForm = CommandForm {
         },
         Argument {
             name: "log-links",
-            help: "How many links of each proxy are logged, 1 to 1000000 [default: 10000]",
+            help: "How many links of each proxy are logged",
+            absent: Absent::Number(DEFAULT_LOG_LINKS),
             beside: &["log"],
             ..CONNECTIONS
         },
         Argument {
             name: "log-bytes",
             value: "N",
-            help: "How many bytes a log has at most, 1 to 2^40 [default: 67108864]",
-            reads: ValueParser::Unsigned(1, MAX_LOG_BYTES),
+            help: "How many bytes a log has at most",
+            takes: Takes::Number(NumberRange {
+                least: 1,
+                most: MAX_LOG_BYTES,
+                unit: "bytes",
+            }),
+            absent: Absent::Number(DEFAULT_LOG_BYTES),
             beside: &["log"],
             ..OPTION
         },

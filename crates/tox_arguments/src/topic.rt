@@ -1,13 +1,24 @@
 //! The topics of `help` that are neither commands nor faults.
+use crate::faults::FaultForm;
 use crate::help;
+use crate::schema::Schema;
+use tox_defs::Toxic;
 
 /// A text of help.
-#[derive(Clone, Copy, Debug, PartialEq, Eq)]
+#[derive(Clone, Copy, Debug)]
 pub enum HelpText {
     /// This text.
     One(&'static str),
+    /// The toxics with their attributes.
+    Toxics,
     /// The lines of all faults.
     Faults,
+    /// A type of toxics with its attributes.
+    Toxic(Toxic),
+    /// The schema of a file.
+    Schema(Schema),
+    /// The line of a fault.
+    Fault(&'static FaultForm),
 }
 
 /// A topic of `help`.
@@ -48,7 +59,7 @@ impl Topic {
 
     pub fn text(self) -> HelpText {
         match self {
-            Topic::Toxics => HelpText::One(help::toxics()),
+            Topic::Toxics => HelpText::Toxics,
             Topic::Scripts => HelpText::One(help::SCRIPTS),
             Topic::Faults => HelpText::Faults,
         }

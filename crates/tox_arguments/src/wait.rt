@@ -4,7 +4,7 @@ use crate::arguments::MAX_CONNECT_TIMEOUT;
 use crate::command::CommandForm;
 use crate::command_line::{Task, incomplete};
 use crate::help;
-use clap::builder::ValueParser;
+use crate::takes::{Absent, NumberRange, Takes};
 use clap::{ArgMatches, Error};
 use std::alloc::Global;
 
@@ -34,8 +34,13 @@ pub(crate) const WAIT: CommandForm = CommandForm {
         Argument {
             name: "within",
             value: "MS",
-            help: "How many milliseconds it may take, 1 to 600000 [default: 10000]",
-            reads: ValueParser::Unsigned(1, MAX_CONNECT_TIMEOUT),
+            help: "How many milliseconds it may take",
+            takes: Takes::Number(NumberRange {
+                least: 1,
+                most: MAX_CONNECT_TIMEOUT,
+                unit: "milliseconds",
+            }),
+            absent: Absent::Number(DEFAULT_WITHIN as u64),
             ..OPTION
         },
     ],

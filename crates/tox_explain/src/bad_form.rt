@@ -1,6 +1,6 @@
 //! What is wrong in a text that is no short form of a toxic.
 use crate::quoted::Quoted;
-use crate::unit::{TOXICITY, Unit};
+use crate::unit::{KeyUnit, TOXICITY};
 use std::fmt;
 use tox_defs::MAX_VALUE_DIGITS;
 
@@ -83,13 +83,13 @@ fn display_value<W: fmt::Write>(
     key: &str,
     f: &mut fmt::Formatter<W>,
 ) -> fmt::Result {
-    let words = match Unit::of(type_name, key) {
+    let unit = match KeyUnit::of(type_name, key) {
         Some(unit) => unit.words(),
-        None => "whole numbers",
+        None => "numbers",
     };
     write!(
         f,
-        "{key} is in {words}: 1 to {} digits and nothing else",
+        "{key} is in whole {unit}: 1 to {} digits and nothing else",
         MAX_VALUE_DIGITS
     )
 }

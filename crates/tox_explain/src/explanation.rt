@@ -1,14 +1,16 @@
 //! An explanation of a fault.
-use crate::fault_line::FaultLine;
-use crate::files::explain_name;
-use crate::help_words::words_of;
+use crate::address::add_address_trouble;
+use crate::failure::Failure;
+use crate::files::{add_proxies, add_reason, add_stream};
 use crate::inputs::Inputs;
-use crate::line_fault::explain_line;
+use crate::line_fault::{explain_arrivals, explain_log};
+use crate::listening::explain_listening;
 use crate::populate::explain_populate;
-use crate::random_words::explain_words;
+use crate::random_words::add_bad_word;
 use crate::script::explain_script;
-use crate::short_form::explain_short;
+use crate::short_form::explain_toxics;
 use std::alloc::{AllocError, Global};
+use tox_proxy::WaitFault;
 
 /// What an explanation has still to say.
 #[derive(Clone, Copy, PartialEq, Eq)]
@@ -18,14 +20,17 @@ pub(crate) enum Rest {
     Nothing,
 }
 
-/// The lines below a fault line, which is given without `toxi: `. Each is indented by two spaces. A code that isn't known has none.
-pub fn explain(alloc: Global, fault: &str, inputs: &Inputs<'_>) -> Result<String, AllocError> {
-    let fault = FaultLine::of(fault);
+/// The lines below a fault's line. Each is indented by two spaces.
+pub fn explain(
+    alloc: Global,
+    failure: &Failure<'_>,
+    inputs: &Inputs<'_>,
+) -> Result<String, AllocError> {
     let mut text = String::new(alloc);
-    if add_place(&mut text, alloc, &fault, inputs)? == Rest::Words {
-        if let Some(words) = words_of(fault.code) {
-            write!(text, "  {words}\n")?;
-        }
+    if add_place(&mut text, alloc, failure, inputs)? == Rest::Words {
+        let form = failure.form();
+        let (means, advice) = (form.means, form.advice);
+        write!(text, "  {means}; {advice}\n")?;
     }
     Ok(text)
 }
@@ -34,18 +39,27 @@ pub fn explain(alloc: Global, fault: &str, inputs: &Inputs<'_>) -> Result<String
 fn add_place(
     text: &mut String,
     alloc: Global,
-    fault: &FaultLine<'_>,
+    failure: &Failure<'_>,
     inputs: &Inputs<'_>,
 ) -> Result<Rest, AllocError> {
-    match (fault.code.get(..1), fault.short_form(inputs)) {
-        (Some("Q" | "S"), Some(form)) => explain_short(text, alloc, fault, form),
-        (Some("S" | "M"), _) => explain_script(text, alloc, fault, inputs),
-        (Some("C"), _) => explain_populate(text, alloc, fault, inputs),
-        (Some("W"), _) => explain_words(text, fault, inputs),
-        // Its number counts logs.
-        _ if fault.code == "G3" => Ok(Rest::Words),
-        (Some("A" | "L" | "G"), _) => explain_line(text, fault, inputs),
-        (Some("P"), _) => explain_name(text, alloc, fault, inputs),
-        _ => Ok(Rest::Words),
+    match failure {
+        Failure::Toxics(fault) => return explain_toxics(text, alloc, fault, inputs),
+        Failure::Script(fault) => return explain_script(text, alloc, fault, inputs),
+        Failure::Config(fault) => return explain_populate(text, alloc, fault, inputs),
+        Failure::Dry(fault) => return explain_arrivals(text, fault, inputs),
+        Failure::Log(fault, reason) => explain_log(text, fault, *reason, inputs)?,
+        Failure::Serve(fault) => return explain_listening(text, fault, inputs),
+        Failure::Words(fault) => add_bad_word(text, fault, inputs)?,
+        Failure::File(_, Some(reason)) => add_reason(text, reason)?,
+        Failure::UnknownProxy(name) => add_proxies(text, alloc, name, inputs)?,
+        Failure::BadStream => add_stream(text, alloc, inputs)?,
+        Failure::Wait(WaitFault::BadAddress(address)) => add_address_trouble(text, address)?,
+        Failure::Wait(WaitFault::NotReady(address)) if address.contains('/') => {
+            add_address_trouble(text, address)?;
+        }
+        Failure::LogRefused(_, refusal) => add_reason(text, refusal)?,
+        Failure::FilesRefused(_, refusal) => add_reason(text, refusal)?,
+        _ => {}
     }
+    Ok(Rest::Words)
 }

@@ -1,42 +1,19 @@
-//! Faults of files, folders, proxies and streams that are reported by their names.
-use crate::explanation::Rest;
-use crate::fault_line::FaultLine;
+//! What there is in place of a proxy or a stream that was named, and the system's reason.
 use crate::inputs::Inputs;
 use crate::quoted::Quoted;
 use std::alloc::{AllocError, Global};
+use std::fmt::Display;
 use tox_config::{ProxyDef, read_populate};
 use tox_text::nearest;
+use tox_time::Stream;
 
-/// Adds what there is in place of what was named, and why the system refused it.
-pub(crate) fn explain_name(
-    text: &mut String,
-    alloc: Global,
-    fault: &FaultLine<'_>,
-    inputs: &Inputs<'_>,
-) -> Result<Rest, AllocError> {
-    match fault.code {
-        "P3" => add_proxies(text, alloc, fault.rest, inputs)?,
-        "P4" => add_address(text, inputs)?,
-        "P5" => add_stream(text, alloc, inputs)?,
-        _ => {}
-    }
-    match inputs.reason {
-        Some(reason) if is_of_system(fault.code) => {
-            let reason = Quoted(reason);
-            write!(text, "  {reason}\n")?;
-        }
-        _ => {}
-    }
-    Ok(Rest::Words)
-}
-
-/// Whether it is the system that refused what is named. It knows nothing of a proxy's or a stream's name.
-fn is_of_system(code: &str) -> bool {
-    code != "P3" && code != "P5"
+/// Adds why the system refused something.
+pub(crate) fn add_reason<D: Display>(text: &mut String, reason: &D) -> Result<(), AllocError> {
+    write!(text, "  {reason}\n")
 }
 
 /// Adds the proxies that there are.
-fn add_proxies(
+pub(crate) fn add_proxies(
     text: &mut String,
     alloc: Global,
     name: &str,
@@ -85,28 +62,31 @@ fn add_near(
     }
 }
 
-/// Adds the address that can't be listened at.
-fn add_address(text: &mut String, inputs: &Inputs<'_>) -> Result<(), AllocError> {
-    if let Some(address) = inputs.listen {
-        let address = Quoted(address);
-        write!(text, "  listen: {address}\n")?;
-    }
-    if let Some(address) = inputs.ready {
-        let address = Quoted(address);
-        write!(text, "  --ready {address}\n")?;
-    }
-    Ok(())
-}
-
-/// Adds the stream that was named, and the nearest one.
-fn add_stream(text: &mut String, alloc: Global, inputs: &Inputs<'_>) -> Result<(), AllocError> {
+/// Adds the stream that was named, and the one that was meant.
+pub(crate) fn add_stream(
+    text: &mut String,
+    alloc: Global,
+    inputs: &Inputs<'_>,
+) -> Result<(), AllocError> {
     let Some(stream) = inputs.stream else {
         return Ok(());
     };
     let shown = Quoted(stream);
     write!(text, "  --stream {shown}")?;
-    if let Some(near) = nearest(alloc, stream, &["upstream", "downstream"])? {
-        write!(text, "; {near}?")?;
+    if let Some(meant) = meant_stream(alloc, stream)? {
+        write!(text, "; {meant}?")?;
     }
     text.push_str("\n")
+}
+
+/// The stream that a name was meant to be: one that begins with it, or the nearest.
+pub(crate) fn meant_stream(alloc: Global, name: &str) -> Result<Option<&'static str>, AllocError> {
+    let lower = name.to_lowercase(alloc)?;
+    let names = [Stream::Upstream.name(), Stream::Downstream.name()];
+    for stream in names {
+        if !lower.is_empty() && stream.starts_with(lower.as_str()) {
+            return Ok(Some(stream));
+        }
+    }
+    nearest(alloc, lower.as_str(), &names)
 }

@@ -1,4 +1,5 @@
 //! What a command was given.
+use tox_config::ProxyDef;
 
 /// A text with the name that it is called by: a file's, or `standard input`.
 #[derive(Clone, Copy)]
@@ -16,20 +17,20 @@ pub struct Inputs<'a> {
     pub words: Option<&'a str>,
     /// The stream that was named on the command line.
     pub stream: Option<&'a str>,
-    /// Where the proxy of the command line listens, or the one that a fault is about.
+    /// Where the proxy of the command line listens.
     pub listen: Option<&'a str>,
-    /// The address for probes, if a fault is about it.
-    pub ready: Option<&'a str>,
     /// What the proxy of the command line connects to.
     pub upstream: Option<&'a str>,
+    /// The address for probes.
+    pub ready: Option<&'a str>,
+    /// The proxies that are served.
+    pub proxies: &'a [ProxyDef],
     /// The populate file.
     pub config: Option<NamedText<'a>>,
     /// The script file.
     pub script: Option<NamedText<'a>>,
     /// The arrivals, or a log.
     pub lines: Option<NamedText<'a>>,
-    /// Why the system refused a file, a folder or an address.
-    pub reason: Option<&'a str>,
 }
 
 impl<'a> Inputs<'a> {
@@ -40,12 +41,12 @@ impl<'a> Inputs<'a> {
             words: None,
             stream: None,
             listen: None,
-            ready: None,
             upstream: None,
+            ready: None,
+            proxies: &[],
             config: None,
             script: None,
             lines: None,
-            reason: None,
         }
     }
 }

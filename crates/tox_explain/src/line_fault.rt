@@ -1,39 +1,79 @@
 //! Faults of one line of the arrivals or of a log.
 use crate::explanation::Rest;
-use crate::fault_line::FaultLine;
+use crate::files::add_reason;
 use crate::inputs::Inputs;
 use crate::text_place::add_line;
 use std::alloc::AllocError;
+use std::io;
+use tox_proxy::{DryFault, ReplayFault};
 use tox_text::instant_of;
 
 /// How many bytes of a line are shown at most, before it is quoted.
 const MAX_LINE: usize = 4_096;
 
-/// Adds the line, and what is wrong in it as far as its signs tell.
-pub(crate) fn explain_line(
+/// Adds the line of the arrivals, and what is wrong in it as far as its signs tell.
+pub(crate) fn explain_arrivals(
     text: &mut String,
-    fault: &FaultLine<'_>,
+    fault: &DryFault,
     inputs: &Inputs<'_>,
 ) -> Result<Rest, AllocError> {
-    let Some((name, number, line)) = line_at(fault, inputs) else {
-        return Ok(Rest::Words);
-    };
-    add_line(text, name, number, valid_front(line))?;
-    if fault.code == "L1" {
-        let why = match str::from_utf8(line) {
-            Ok(line) => trouble_in(line),
-            Err(_) => "its bytes aren't UTF-8",
-        };
-        write!(text, "  {why}\n")?;
-        return Ok(Rest::Nothing);
+    match fault {
+        DryFault::BadLine(number) => match add_numbered(text, *number, inputs)? {
+            Some(line) => {
+                let why = match str::from_utf8(line) {
+                    Ok(line) => trouble_in(line),
+                    Err(_) => "its bytes aren't UTF-8",
+                };
+                write!(text, "  {why}\n")?;
+                Ok(Rest::Nothing)
+            }
+            None => Ok(Rest::Words),
+        },
+        DryFault::Arrival(_, number) => {
+            add_numbered(text, *number, inputs)?;
+            Ok(Rest::Words)
+        }
+        _ => Ok(Rest::Words),
     }
-    Ok(Rest::Words)
 }
 
-/// The line that a fault is about, with the name of its text and its number.
-fn line_at<'a>(fault: &FaultLine<'_>, inputs: &Inputs<'a>) -> Option<(&'a str, usize, &'a [u8])> {
+/// Adds the line of a log, or why the system refused its file.
+pub(crate) fn explain_log(
+    text: &mut String,
+    fault: &ReplayFault<'_>,
+    reason: Option<io::Error>,
+    inputs: &Inputs<'_>,
+) -> Result<(), AllocError> {
+    match (fault, reason) {
+        (ReplayFault::BadLog(_, number), _) => {
+            add_numbered(text, *number, inputs)?;
+        }
+        (ReplayFault::LogTooDeep(_, number), _) => {
+            add_numbered(text, *number, inputs)?;
+        }
+        (ReplayFault::Unreadable(_), Some(reason)) => add_reason(text, &reason)?,
+        _ => {}
+    }
+    Ok(())
+}
+
+/// Adds the line of a number from 1, and gives it whole.
+fn add_numbered<'a>(
+    text: &mut String,
+    number: u64,
+    inputs: &Inputs<'a>,
+) -> Result<Option<&'a [u8]>, AllocError> {
+    let Some((name, number, line)) = line_at(number, inputs) else {
+        return Ok(None);
+    };
+    add_line(text, name, number, valid_front(line))?;
+    Ok(Some(line))
+}
+
+/// The line of a number, with the name of its text.
+fn line_at<'a>(number: u64, inputs: &Inputs<'a>) -> Option<(&'a str, usize, &'a [u8])> {
     let lines = inputs.lines?;
-    let number: usize = fault.last_word().parse().ok()?;
+    let number = usize::try_from(number).ok()?;
     let line = lines
         .bytes
         .split(|byte| *byte == b'\n')

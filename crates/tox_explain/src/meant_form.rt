@@ -88,6 +88,6 @@ fn meant_pair<'a>(
 /// A value with the first attribute of a type.
 fn first_pair<'a>(type_name: &str, value: &'a str) -> Option<(&'a str, &'a str)> {
     let toxic = Toxic::of_name(type_name)?;
-    let key = toxic.attributes().first()?;
-    Some((*key, value))
+    let attribute = toxic.attributes().first()?;
+    Some((attribute.name, value))
 }

@@ -1,27 +1,23 @@
 //! Faults of the random words of a command line.
-use crate::explanation::Rest;
-use crate::fault_line::FaultLine;
 use crate::inputs::Inputs;
 use crate::quoted::Quoted;
 use std::alloc::AllocError;
+use tox_words::WordsFault;
 
 /// Adds the part that is no word.
-pub(crate) fn explain_words(
+pub(crate) fn add_bad_word(
     text: &mut String,
-    fault: &FaultLine<'_>,
+    fault: &WordsFault,
     inputs: &Inputs<'_>,
-) -> Result<Rest, AllocError> {
-    if let Some(part) = bad_part(fault, inputs) {
-        let part = Quoted(part);
-        write!(text, "  --words: `{part}`\n")?;
+) -> Result<(), AllocError> {
+    let (WordsFault::BadWord(place), Some(words)) = (fault, inputs.words) else {
+        return Ok(());
+    };
+    match words.split(',').nth(*place) {
+        Some(part) => {
+            let part = Quoted(part);
+            write!(text, "  --words: `{part}`\n")
+        }
+        None => Ok(()),
     }
-    Ok(Rest::Words)
-}
-
-/// The part at the place of a fault.
-fn bad_part<'a>(fault: &FaultLine<'_>, inputs: &Inputs<'a>) -> Option<&'a str> {
-    if fault.code != "W3" {
-        return None;
-    }
-    inputs.words?.split(',').nth(fault.number(0)?)
 }

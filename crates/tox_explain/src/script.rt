@@ -1,25 +1,24 @@
 //! Faults of a script file.
+use crate::double_name::add_earlier_name;
 use crate::explanation::Rest;
-use crate::fault_line::FaultLine;
-use crate::help_words::field_words;
 use crate::inputs::{Inputs, NamedText};
-use crate::quoted::Quoted;
+use crate::script_field::{add_field, add_meant_number, add_unknown_key};
 use crate::script_lines::line_of;
 use crate::script_subject::Subject;
 use crate::text_place::{add_line, add_line_at, add_not_utf8};
-use crate::toxic_attributes::{add_range, fits};
+use crate::toxic_attributes::{add_range, attribute_of};
 use crate::toxic_value::meant_value;
 use crate::unknown_name::UnknownName;
 use std::alloc::{AllocError, Global};
 use toml::Value;
-use tox_defs::MAX_TOXICITY;
-use tox_text::nearest;
+use tox_defs::{MAX_TOXICITY, ToxicFault};
+use tox_script::ScriptFault;
 
 /// Adds the file and the line, and what is wrong there.
 pub(crate) fn explain_script(
     text: &mut String,
     alloc: Global,
-    fault: &FaultLine<'_>,
+    fault: &ScriptFault,
     inputs: &Inputs<'_>,
 ) -> Result<Rest, AllocError> {
     let Some(script) = inputs.script else {
@@ -30,13 +29,30 @@ pub(crate) fn explain_script(
     };
     let document = match toml::table_from_str(alloc, source) {
         Ok(table) => Value::Table(table),
-        Err(error) => return add_not_toml(text, &script, source, &error),
+        Err(error) => return add_not_toml(text, alloc, &script, source, &error),
     };
-    let Some(subject) = Subject::of(fault, &document) else {
+    let Some(subject) = Subject::of(alloc, fault, &document)? else {
         return Ok(Rest::Words);
     };
-    add_subject_line(text, script.name, source, &document, fault, &subject)?;
-    add_advice(text, alloc, fault, &subject)
+    let found = line_of(
+        source,
+        &document,
+        subject.place,
+        &fields_of(fault, subject.key),
+    );
+    if let Some(line) = found {
+        add_line(text, script.name, line.number, line.text)?;
+    }
+    match fault {
+        ScriptFault::Field(_, _) if !subject.is_known() => add_unknown_key(text, alloc, &subject),
+        ScriptFault::Field(_, _) => add_field(text, alloc, &subject),
+        ScriptFault::Toxic(_, fault) => add_toxic_fault(text, alloc, fault, &subject),
+        ScriptFault::DoubleName(_) => {
+            add_earlier_name(text, alloc, &script, &document, &subject)?;
+            Ok(Rest::Words)
+        }
+        _ => Ok(Rest::Words),
+    }
 }
 
 /// The document of the script file, if it is one.
@@ -57,6 +73,7 @@ pub(crate) fn document_of(alloc: Global, inputs: &Inputs<'_>) -> Result<Option<V
 /// Adds where a text is no TOML, and why.
 fn add_not_toml(
     text: &mut String,
+    alloc: Global,
     script: &NamedText<'_>,
     source: &str,
     error: &toml::de::Error,
@@ -65,90 +82,45 @@ fn add_not_toml(
         return Ok(Rest::Words);
     };
     add_line_at(text, script.name, source, span.start)?;
+    if serde_json::Value::from_str(alloc, source).is_ok() {
+        text.push_str(
+            "  it is JSON, as a populate file is: --script takes the script, and --config the populate file\n",
+        )?;
+        return Ok(Rest::Nothing);
+    }
     let why = error.message();
     write!(text, "  {why}\n")?;
     Ok(Rest::Words)
 }
 
-/// Adds the line of what a fault is about, where it is sure.
-fn add_subject_line(
-    text: &mut String,
-    name: &str,
-    source: &str,
-    document: &Value,
-    fault: &FaultLine<'_>,
-    subject: &Subject<'_>,
-) -> Result<(), AllocError> {
-    let fields = fields_of(fault.code, subject.key);
-    let Some(line) = line_of(source, document, subject.number, &fields) else {
-        return Ok(());
-    };
-    add_line(text, name, line.number, line.text)
-}
-
 /// The fields by which the line of a fault is found: its key, and that of the table of attributes, which an attribute may stand in.
-fn fields_of<'a>(code: &str, key: &'a str) -> [&'a str; 2] {
-    match code {
-        "S4" | "S5" | "S6" => [key, "attributes"],
+fn fields_of<'a>(fault: &ScriptFault, key: &'a str) -> [&'a str; 2] {
+    match fault {
+        ScriptFault::Toxic(_, ToxicFault::UnknownAttribute) => [key, "attributes"],
+        ScriptFault::Toxic(_, ToxicFault::OutOfRange) => [key, "attributes"],
+        ScriptFault::Toxic(_, ToxicFault::Variation) => [key, "attributes"],
         _ => [key, key],
     }
 }
 
-/// Adds what is accepted there.
-fn add_advice(
+/// Adds why a toxic is refused.
+fn add_toxic_fault(
     text: &mut String,
     alloc: Global,
-    fault: &FaultLine<'_>,
+    fault: &ToxicFault,
     subject: &Subject<'_>,
 ) -> Result<Rest, AllocError> {
-    match fault.code {
-        "S2" if !subject.number.keys().contains(&subject.key) => {
-            add_unknown_key(text, alloc, subject)
+    match fault {
+        ToxicFault::UnknownType | ToxicFault::UnknownAttribute => {
+            match UnknownName::in_table(subject.table) {
+                Some(unknown) => unknown.add(text, alloc),
+                None => Ok(Rest::Words),
+            }
         }
-        "S2" => add_field(text, subject),
-        "S3" | "S4" => match UnknownName::in_table(subject.table) {
-            Some(unknown) => unknown.add(text, alloc),
-            None => Ok(Rest::Words),
-        },
-        "S5" => add_attribute(text, alloc, subject),
-        "S7" => add_toxicity(text, alloc, subject),
-        _ => Ok(Rest::Words),
+        ToxicFault::OutOfRange => add_attribute(text, alloc, subject),
+        ToxicFault::Variation => Ok(Rest::Words),
+        ToxicFault::ToxicityNotThousandths => add_toxicity(text, alloc, subject),
     }
-}
-
-/// Adds a key that doesn't belong there, the nearest one that does, and all that do.
-fn add_unknown_key(
-    text: &mut String,
-    alloc: Global,
-    subject: &Subject<'_>,
-) -> Result<Rest, AllocError> {
-    let keys = subject.number.keys();
-    let key = Quoted(subject.key);
-    write!(text, "  no key `{key}` belongs there")?;
-    if let Some(near) = nearest(alloc, subject.key, keys)? {
-        write!(text, "; {near}?")?;
-    }
-    text.push_str("\n  the keys are")?;
-    let mut separator = " ";
-    for key in keys {
-        write!(text, "{separator}{key}")?;
-        separator = ", ";
-    }
-    text.push_str("\n")?;
-    Ok(Rest::Nothing)
-}
-
-/// Adds what a field is to be.
-fn add_field(text: &mut String, subject: &Subject<'_>) -> Result<Rest, AllocError> {
-    let key = subject.key;
-    let Some(words) = field_words(key) else {
-        return Ok(Rest::Words);
-    };
-    if subject.value().is_none() {
-        write!(text, "  {key} is missing\n")?;
-    }
-    write!(text, "  {key}: {words}\n")?;
-    Ok(Rest::Nothing)
 }
 
 /// Adds what an attribute may be, and what was meant.
@@ -160,12 +132,15 @@ fn add_attribute(
     let Some(toxic) = subject.toxic() else {
         return Ok(Rest::Words);
     };
-    add_range(text, &toxic, subject.key)?;
+    let Some(attribute) = attribute_of(&toxic, subject.key) else {
+        return Ok(Rest::Words);
+    };
+    add_range(text, &attribute)?;
     let meant = meant_of(alloc, toxic.name(), subject)?;
-    add_meant(
+    add_meant_number(
         text,
         subject,
-        meant.filter(|number| fits(&toxic, subject.key, *number)),
+        meant.filter(|number| attribute.limits.has(*number)),
     )?;
     Ok(Rest::Nothing)
 }
@@ -177,10 +152,10 @@ fn add_toxicity(
     subject: &Subject<'_>,
 ) -> Result<Rest, AllocError> {
     text.push_str(
-        "  a toxicity is whole thousandths, 0 to 1000; with version = 2 it may be a text, as \"0.25\"\n",
+        "  a toxicity is whole thousandths, 0 to 1000, such as 30 (3.0 %); with version = 2 it may be a text, as \"0.25\"\n",
     )?;
     let meant = meant_of(alloc, "", subject)?;
-    add_meant(
+    add_meant_number(
         text,
         subject,
         meant.filter(|number| *number <= u64::from(MAX_TOXICITY)),
@@ -199,19 +174,6 @@ fn meant_of(
     };
     let written = written_value(alloc, value)?;
     meant_value(alloc, type_name, subject.key, written.as_str())
-}
-
-/// Adds what to write.
-fn add_meant(
-    text: &mut String,
-    subject: &Subject<'_>,
-    meant: Option<u64>,
-) -> Result<(), AllocError> {
-    let key = subject.key;
-    match meant {
-        Some(number) => write!(text, "  write {key} = {number}\n"),
-        None => Ok(()),
-    }
 }
 
 /// A value as a person reads it: a text without its quotes, and a number with a point if it has one.

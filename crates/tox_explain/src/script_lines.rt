@@ -2,8 +2,8 @@
 //!
 //! The lines are looked through beside the reader of TOML, whose values don't have places. A table is found by the number of its
 //! header, so what is written otherwise, as an inline table, isn't found, and then no line is reported.
-use crate::fault_line::FaultLine;
 use toml::Value;
+use tox_script::Location;
 
 /// A line with its number from 1.
 #[derive(Clone, Copy)]
@@ -12,60 +12,50 @@ pub(crate) struct ScriptLine<'a> {
     pub(crate) text: &'a str,
 }
 
-/// A table of a script: the document, a rule or a toxic, by the number of each from 1. 0 is none.
-#[derive(Clone, Copy, PartialEq, Eq)]
-pub(crate) struct TableNumber {
-    pub(crate) rule: usize,
-    pub(crate) toxic: usize,
-}
+/// The place of the document.
+pub(crate) const DOCUMENT: Location = Location { rule: 0, toxic: 0 };
 
-impl TableNumber {
-    pub(crate) fn of(fault: &FaultLine<'_>) -> Option<TableNumber> {
-        Some(TableNumber {
-            rule: fault.number(0)?,
-            toxic: fault.number(1)?,
-        })
-    }
-
-    /// The table in which the lines behind this one stand.
-    fn behind(self, line: &str) -> TableNumber {
-        match header_of(line) {
-            Some("rule") => TableNumber {
-                rule: self.rule.saturating_add(1),
-                toxic: 0,
-            },
-            Some("rule.toxic") => TableNumber {
-                rule: self.rule,
-                toxic: self.toxic.saturating_add(1),
-            },
-            _ => self,
-        }
+/// The table in which the lines behind a line stand, which stands in this one.
+fn place_behind(place: Location, line: &str) -> Location {
+    match header_of(line) {
+        Some("rule") => Location {
+            rule: place.rule.saturating_add(1),
+            toxic: 0,
+        },
+        Some("rule.toxic") => Location {
+            rule: place.rule,
+            toxic: place.toxic.saturating_add(1),
+        },
+        _ => place,
     }
 }
 
-/// The line of a table on which one of these fields is set, or else the line of its header. None if it isn't sure.
+/// The line of a table on which one of these fields is set, or that is the header of the first, or else the line of the table's own
+/// header. None if it isn't sure.
 pub(crate) fn line_of<'a>(
     text: &'a str,
     document: &Value,
-    table: TableNumber,
+    place: Location,
     fields: &[&str],
 ) -> Option<ScriptLine<'a>> {
-    if !has_each_header(text, document, table.rule) {
+    if !has_each_header(text, document, place.rule) {
         return None;
     }
+    let key = fields.first().copied().unwrap_or("");
     let mut header = None;
-    let mut now = TableNumber { rule: 0, toxic: 0 };
-    for (place, line) in text.lines().enumerate() {
+    let mut now = DOCUMENT;
+    for (before, line) in text.lines().enumerate() {
         let line = ScriptLine {
-            number: place.saturating_add(1),
+            number: before.saturating_add(1),
             text: line.trim(),
         };
-        let next = now.behind(line.text);
-        if next != now && next == table {
+        let next = place_behind(now, line.text);
+        if next != now && next == place {
             header = Some(line);
         }
         now = next;
-        if now == table && fields.iter().any(|field| sets(line.text, field)) {
+        let is_set = now == place && fields.iter().any(|field| sets(line.text, field));
+        if is_set || heads(line.text, now, place, key) {
             return Some(line);
         }
     }
@@ -74,10 +64,10 @@ pub(crate) fn line_of<'a>(
 
 /// Whether the text has as many headers of rules, and of this rule's toxics, as the document has tables.
 fn has_each_header(text: &str, document: &Value, rule: usize) -> bool {
-    let mut last = TableNumber { rule: 0, toxic: 0 };
+    let mut last = DOCUMENT;
     let mut toxics = 0;
     for line in text.lines() {
-        last = last.behind(line.trim());
+        last = place_behind(last, line.trim());
         if last.rule == rule {
             toxics = last.toxic;
         }
@@ -107,15 +97,32 @@ fn header_of(line: &str) -> Option<&str> {
     Some(name.trim())
 }
 
+/// Whether a line is the header of a field of the table at a place. Behind the line stands the table `now`.
+fn heads(line: &str, now: Location, place: Location, field: &str) -> bool {
+    let name = match header_of(line) {
+        Some("rule" | "rule.toxic") | None => line
+            .strip_prefix('[')
+            .and_then(|name| name.strip_suffix(']')),
+        name => name,
+    };
+    let Some(name) = name else {
+        return false;
+    };
+    let (table, key) = match name.rsplit_once('.') {
+        Some((table, key)) => (table, key),
+        None => ("", name),
+    };
+    let is_there = match table {
+        "" => place == DOCUMENT,
+        "rule" => place.toxic == 0 && place.rule == now.rule,
+        "rule.toxic" => place == now,
+        _ => false,
+    };
+    is_there && key == field
+}
+
 /// Whether a line sets a field.
 fn sets(line: &str, field: &str) -> bool {
-    if line
-        .strip_prefix('[')
-        .and_then(|name| name.strip_suffix(']'))
-        == Some(field)
-    {
-        return true;
-    }
     let line = line.strip_prefix('"').unwrap_or(line);
     match line.strip_prefix(field) {
         Some(behind) => {

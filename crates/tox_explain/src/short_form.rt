@@ -1,48 +1,73 @@
 //! Faults of the toxics of a command line.
 use crate::bad_form::mistake_in;
 use crate::explanation::Rest;
-use crate::fault_line::FaultLine;
 use crate::inputs::Inputs;
 use crate::meant_form::meant_form;
 use crate::quoted::Quoted;
-use crate::toxic_attributes::{add_range, fits};
-use crate::unit::Unit;
+use crate::toxic_attributes::add_range;
+use crate::unit::KeyUnit;
 use crate::unknown_name::UnknownName;
 use std::alloc::{AllocError, Global};
-use tox_defs::Toxic;
+use tox_defs::{ShortFault, Toxic, ToxicFault};
+use tox_proxy::ToxicsFault;
 
-impl<'f> FaultLine<'f> {
-    /// The short form that a fault of the command line's toxics is about.
-    pub(crate) fn short_form<'a>(&self, inputs: &Inputs<'a>) -> Option<&'a str> {
-        let number = self.number(0)?;
-        inputs.toxics.get(number.checked_sub(1)?).copied()
+/// Adds the toxic that a fault is about, and what is wrong in it.
+pub(crate) fn explain_toxics(
+    text: &mut String,
+    alloc: Global,
+    fault: &ToxicsFault,
+    inputs: &Inputs<'_>,
+) -> Result<Rest, AllocError> {
+    let Some(form) = form_of(fault, inputs) else {
+        return Ok(Rest::Words);
+    };
+    let number = number_of(fault);
+    let shown = Quoted(form);
+    write!(text, "  toxic {number}: {shown}\n")?;
+    match fault {
+        ToxicsFault::Short(ShortFault::BadForm, _) => add_bad_form(text, alloc, form),
+        ToxicsFault::Short(ShortFault::DoubleKey, _) => add_double_key(text, form),
+        ToxicsFault::Short(ShortFault::Toxic(fault), _) => {
+            add_toxic_fault(text, alloc, fault, form)
+        }
+        ToxicsFault::TooMany(_) => Ok(Rest::Words),
     }
 }
 
-/// Adds the toxic, and what is wrong in it.
-pub(crate) fn explain_short(
+/// The number of the toxic that a fault is about.
+fn number_of(fault: &ToxicsFault) -> usize {
+    match fault {
+        ToxicsFault::Short(_, number) => *number,
+        ToxicsFault::TooMany(number) => *number,
+    }
+}
+
+/// The short form that a fault is about.
+pub(crate) fn form_of<'a>(fault: &ToxicsFault, inputs: &Inputs<'a>) -> Option<&'a str> {
+    inputs.toxics.get(number_of(fault).checked_sub(1)?).copied()
+}
+
+/// Adds why a toxic is refused.
+fn add_toxic_fault(
     text: &mut String,
     alloc: Global,
-    fault: &FaultLine<'_>,
+    fault: &ToxicFault,
     form: &str,
 ) -> Result<Rest, AllocError> {
-    let shown = Quoted(form);
-    let number = fault.number(0).unwrap_or(0);
-    write!(text, "  toxic {number}: {shown}\n")?;
-    match fault.code {
-        "Q1" => add_bad_form(text, alloc, form),
-        "Q2" => add_double_key(text, form),
-        "S3" | "S4" => match UnknownName::in_form(form) {
-            Some(unknown) => unknown.add(text, alloc),
-            None => Ok(Rest::Words),
-        },
-        "S5" => add_out_of_range(text, form),
-        "S7" => {
-            let words = Unit::Thousandths.words();
-            write!(text, "  toxicity is in {words}\n")?;
+    match fault {
+        ToxicFault::UnknownType | ToxicFault::UnknownAttribute => {
+            match UnknownName::in_form(form) {
+                Some(unknown) => unknown.add(text, alloc),
+                None => Ok(Rest::Words),
+            }
+        }
+        ToxicFault::OutOfRange => add_out_of_range(text, form),
+        ToxicFault::Variation => Ok(Rest::Words),
+        ToxicFault::ToxicityNotThousandths => {
+            let unit = KeyUnit::Thousandths.words();
+            write!(text, "  toxicity is in whole {unit}\n")?;
             Ok(Rest::Nothing)
         }
-        _ => Ok(Rest::Words),
     }
 }
 
@@ -91,9 +116,9 @@ fn add_out_of_range(text: &mut String, form: &str) -> Result<Rest, AllocError> {
     let Some(toxic) = Toxic::of_name(name) else {
         return Ok(Rest::Words);
     };
-    for key in toxic.attributes() {
-        if !fits(&toxic, key, value_in(pairs, key)) {
-            add_range(text, &toxic, key)?;
+    for attribute in toxic.attributes() {
+        if !attribute.limits.has(value_in(pairs, attribute.name)) {
+            add_range(text, attribute)?;
             return Ok(Rest::Nothing);
         }
     }

@@ -1,70 +1,60 @@
 //! An attribute whose value is out of its range.
-use crate::unit::Unit;
 use arrayvec::ArrayVec;
 use std::alloc::AllocError;
 use toml::Value;
-use tox_defs::{MAX_ATTRIBUTES, Toxic, ToxicFault};
-
-/// A value that is in the range of each attribute.
-const IN_RANGE: u64 = 1;
-
-/// How many bits a value has.
-const BITS: u32 = 64;
+use tox_defs::{ABSENT_VALUE, Attribute, MAX_ATTRIBUTES, Toxic};
 
 /// Adds what the values of an attribute may be.
-pub(crate) fn add_range(text: &mut String, toxic: &Toxic, key: &str) -> Result<(), AllocError> {
-    let words = match Unit::of(toxic.name(), key) {
-        Some(unit) => unit.words(),
-        None => "whole numbers",
-    };
-    let least = if fits(toxic, key, 0) { 0 } else { 1 };
-    let most = greatest(toxic, key);
-    write!(text, "  {key} is in {words}, {least} to {most}")?;
-    if least == 1 {
+pub(crate) fn add_range(text: &mut String, attribute: &Attribute) -> Result<(), AllocError> {
+    let (key, limits) = (attribute.name, attribute.limits);
+    let unit = attribute.unit.words();
+    write!(
+        text,
+        "  {key} is in whole {unit}, {} to {}",
+        limits.least, limits.most
+    )?;
+    if attribute.default().is_none() {
         text.push_str("; it has no default")?;
     }
     text.push_str("\n")
 }
 
-/// Whether a value of one attribute is in its range.
-pub(crate) fn fits(toxic: &Toxic, key: &str, value: u64) -> bool {
-    let mut values = ArrayVec::<u64, MAX_ATTRIBUTES>::new();
+/// The names of a toxic's attributes.
+pub(crate) fn attribute_names(toxic: &Toxic) -> ArrayVec<&'static str, MAX_ATTRIBUTES> {
+    let mut names = ArrayVec::new();
     for attribute in toxic.attributes() {
-        let _ = values.try_push(if *attribute == key { value } else { IN_RANGE });
+        let _ = names.try_push(attribute.name);
     }
-    !matches!(toxic.with_values(&values), Err(ToxicFault::OutOfRange))
+    names
 }
 
-/// The greatest value of an attribute, which the toxic is asked for bit by bit.
-fn greatest(toxic: &Toxic, key: &str) -> u64 {
-    let mut most = 0u64;
-    for place in 1..=BITS {
-        let more = most | (1u64 << (BITS - place));
-        if fits(toxic, key, more) {
-            most = more;
-        }
-    }
-    most
+/// The attribute of a name.
+pub(crate) fn attribute_of(toxic: &Toxic, name: &str) -> Option<Attribute> {
+    toxic
+        .attributes()
+        .iter()
+        .copied()
+        .find(|attribute| attribute.name == name)
 }
 
 /// The first attribute of a toxic's table that isn't a whole number in its range. One that has no default may be absent.
-pub(crate) fn bad_attribute(table: &Value) -> Option<&'static str> {
+pub(crate) fn bad_attribute(table: &Value) -> Option<Attribute> {
     let toxic = Toxic::of_name(table.get("type")?.as_str()?)?;
     let attributes = table.get("attributes");
-    toxic.attributes().iter().copied().find(|key| {
-        let value = attributes.and_then(|attributes| attributes.get(*key));
-        !is_good(&toxic, key, value)
+    toxic.attributes().iter().copied().find(|attribute| {
+        let value = attributes.and_then(|attributes| attributes.get(attribute.name));
+        !is_good(attribute, value)
     })
 }
 
-/// Whether a value is a whole number in the attribute's range. An absent one is 0.
-fn is_good(toxic: &Toxic, key: &str, value: Option<&Value>) -> bool {
+/// Whether a value is a whole number in the attribute's range.
+fn is_good(attribute: &Attribute, value: Option<&Value>) -> bool {
     match value {
         Some(Value::Integer(number)) => match u64::try_from(*number) {
-            Ok(number) => fits(toxic, key, number),
+            Ok(number) => attribute.limits.has(number),
             Err(_) => false,
         },
         Some(_) => false,
-        None => fits(toxic, key, 0),
+        None => attribute.limits.has(ABSENT_VALUE),
     }
 }

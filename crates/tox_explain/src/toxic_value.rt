@@ -1,5 +1,5 @@
 //! The whole number that a written value of an attribute means.
-use crate::unit::{Scale, Unit};
+use crate::unit::{KeyUnit, Scale};
 use std::alloc::{AllocError, Global};
 
 /// How many digits of a number are read.
@@ -15,14 +15,15 @@ pub(crate) fn meant_value(
     attribute: &str,
     text: &str,
 ) -> Result<Option<u64>, AllocError> {
-    let Some(unit) = Unit::of(type_name, attribute) else {
+    let Some(unit) = KeyUnit::of(type_name, attribute) else {
         return Ok(None);
     };
     let lower = text.trim().to_lowercase(alloc)?;
     Ok(meant_in(unit, lower.as_str()))
 }
 
-fn meant_in(unit: Unit, text: &str) -> Option<u64> {
+/// The whole number of a unit that a text in small letters means.
+pub(crate) fn meant_in(unit: KeyUnit, text: &str) -> Option<u64> {
     let end = text
         .find(|letter: char| !letter.is_ascii_digit() && letter != '.')
         .unwrap_or(text.len());
@@ -32,11 +33,11 @@ fn meant_in(unit: Unit, text: &str) -> Option<u64> {
 }
 
 /// How many of the unit's a written one is. A number alone has the unit, but a chance with a point is a part of 1.
-fn scale_of(unit: Unit, number: &str, written: &str) -> Option<Scale> {
+fn scale_of(unit: KeyUnit, number: &str, written: &str) -> Option<Scale> {
     if !written.is_empty() {
         return unit.scale(written);
     }
-    let is_part = unit == Unit::Thousandths && number.contains('.');
+    let is_part = unit == KeyUnit::Thousandths && number.contains('.');
     let times = if is_part { 1_000 } else { 1 };
     Some(Scale { times, per: 1 })
 }

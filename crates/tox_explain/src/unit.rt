@@ -1,17 +1,14 @@
-//! Units that people write behind a number, and the one that an attribute has.
-use crate::help_words::value_name;
+//! Units that people write behind a number, in the one that a key of a short form has.
+use crate::toxic_attributes::attribute_of;
+use tox_defs::{Toxic, Unit};
 
 /// The key of a short form that each type has.
 pub const TOXICITY: &str = "toxicity";
 
-/// The unit of an attribute's values.
+/// What the value of a key counts.
 #[derive(Clone, Copy, PartialEq, Eq)]
-pub(crate) enum Unit {
-    Milliseconds,
-    Microseconds,
-    /// Of 1000 bytes, in a second.
-    Kilobytes,
-    Bytes,
+pub(crate) enum KeyUnit {
+    Attribute(Unit),
     /// A chance.
     Thousandths,
 }
@@ -23,41 +20,34 @@ pub(crate) struct Scale {
     pub(crate) per: u64,
 }
 
-impl Unit {
-    /// The unit of an attribute of a type.
-    pub(crate) fn of(type_name: &str, attribute: &str) -> Option<Unit> {
-        if attribute == TOXICITY {
-            return Some(Unit::Thousandths);
+impl KeyUnit {
+    /// The unit of a key of a type.
+    pub(crate) fn of(type_name: &str, key: &str) -> Option<KeyUnit> {
+        if key == TOXICITY {
+            return Some(KeyUnit::Thousandths);
         }
-        match value_name(type_name, attribute)? {
-            "MS" => Some(Unit::Milliseconds),
-            "MICROS" => Some(Unit::Microseconds),
-            "KB" => Some(Unit::Kilobytes),
-            "BYTES" => Some(Unit::Bytes),
-            _ => None,
-        }
+        let toxic = Toxic::of_name(type_name)?;
+        let attribute = attribute_of(&toxic, key)?;
+        Some(KeyUnit::Attribute(attribute.unit))
     }
 
     /// The unit in words.
     pub(crate) fn words(self) -> &'static str {
         match self {
-            Unit::Milliseconds => "whole milliseconds",
-            Unit::Microseconds => "whole microseconds",
-            Unit::Kilobytes => "whole kilobytes (of 1000 bytes) a second",
-            Unit::Bytes => "whole bytes",
-            Unit::Thousandths => "whole thousandths, 0 to 1000",
+            KeyUnit::Attribute(unit) => unit.words(),
+            KeyUnit::Thousandths => "thousandths, 0 to 1000, such as 30 (3.0 %)",
         }
     }
 
     /// What a written unit, in small letters, is in this one.
     pub(crate) fn scale(self, written: &str) -> Option<Scale> {
         let (times, per) = match self {
-            Unit::Milliseconds => (micros_in(written)?, 1_000),
-            Unit::Microseconds => (micros_in(written)?, 1),
-            Unit::Kilobytes => (bytes_in(rate_of(written))?, 1_000),
-            Unit::Bytes => (bytes_in(written)?, 1),
-            Unit::Thousandths if written == "%" => (10, 1),
-            Unit::Thousandths => return None,
+            KeyUnit::Attribute(Unit::Milliseconds) => (micros_in(written)?, 1_000),
+            KeyUnit::Attribute(Unit::Microseconds) => (micros_in(written)?, 1),
+            KeyUnit::Attribute(Unit::Kilobytes) => (bytes_in(rate_of(written))?, 1_000),
+            KeyUnit::Attribute(Unit::Bytes) => (bytes_in(written)?, 1),
+            KeyUnit::Thousandths if written == "%" => (10, 1),
+            KeyUnit::Thousandths => return None,
         };
         Some(Scale { times, per })
     }

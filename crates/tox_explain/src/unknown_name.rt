@@ -1,10 +1,18 @@
 //! A type or an attribute that there isn't, and the nearest name.
 use crate::explanation::Rest;
+use crate::failure::Failure;
+use crate::inputs::Inputs;
 use crate::quoted::Quoted;
+use crate::script::document_of;
+use crate::script_subject::table_at;
+use crate::short_form::form_of;
+use crate::toxic_attributes::attribute_names;
 use crate::unit::TOXICITY;
 use std::alloc::{AllocError, Global};
 use toml::Value;
-use tox_defs::Toxic;
+use tox_defs::{ShortFault, Toxic, ToxicFault};
+use tox_proxy::ToxicsFault;
+use tox_script::ScriptFault;
 use tox_text::nearest;
 
 /// A name that is given for a type, or for an attribute of a toxic.
@@ -55,7 +63,7 @@ impl<'a> UnknownName<'a> {
     pub(crate) fn nearest(&self, alloc: Global) -> Result<Option<&'static str>, AllocError> {
         match self {
             UnknownName::Type(name) => nearest(alloc, name, &type_names()),
-            UnknownName::Attribute(toxic, name) => nearest(alloc, name, toxic.attributes()),
+            UnknownName::Attribute(toxic, name) => nearest(alloc, name, &attribute_names(toxic)),
         }
     }
 
@@ -75,7 +83,9 @@ impl<'a> UnknownName<'a> {
         text.push_str("\n")?;
         match self {
             UnknownName::Type(_) => add_names(text, "the types are", &type_names())?,
-            UnknownName::Attribute(toxic, _) => add_names(text, "it has", toxic.attributes())?,
+            UnknownName::Attribute(toxic, _) => {
+                add_names(text, "it has", &attribute_names(toxic))?;
+            }
         }
         Ok(Rest::Nothing)
     }
@@ -95,4 +105,62 @@ fn add_names(text: &mut String, words: &str, names: &[&str]) -> Result<(), Alloc
         separator = ", ";
     }
     text.push_str("\n")
+}
+
+/// A name that there isn't, and the nearest one that there is.
+#[derive(Drop)]
+pub struct NearName {
+    pub name: String,
+    pub nearest: &'static str,
+}
+
+/// The unknown type or attribute that a failure is about, and the nearest known one. None if none is near, or of another failure.
+pub fn near_name(
+    alloc: Global,
+    failure: &Failure<'_>,
+    inputs: &Inputs<'_>,
+) -> Result<Option<NearName>, AllocError> {
+    match failure {
+        Failure::Toxics(fault) => match fault {
+            ToxicsFault::Short(ShortFault::Toxic(why), _) if is_of_name(why) => nearest_of(
+                alloc,
+                form_of(fault, inputs).and_then(UnknownName::in_form),
+            ),
+            _ => Ok(None),
+        },
+        Failure::Script(ScriptFault::Toxic(place, fault)) if is_of_name(fault) => {
+            match document_of(alloc, inputs)? {
+                Some(document) => nearest_of(
+                    alloc,
+                    table_at(&document, *place).and_then(UnknownName::in_table),
+                ),
+                None => Ok(None),
+            }
+        }
+        _ => Ok(None),
+    }
+}
+
+/// Whether a toxic is refused for a name that there isn't.
+fn is_of_name(fault: &ToxicFault) -> bool {
+    matches!(
+        fault,
+        ToxicFault::UnknownType | ToxicFault::UnknownAttribute
+    )
+}
+
+fn nearest_of(
+    alloc: Global,
+    unknown: Option<UnknownName<'_>>,
+) -> Result<Option<NearName>, AllocError> {
+    let Some(unknown) = unknown else {
+        return Ok(None);
+    };
+    match unknown.nearest(alloc)? {
+        Some(nearest) => Ok(Some(NearName {
+            name: unknown.name().to_string(alloc)?,
+            nearest,
+        })),
+        None => Ok(None),
+    }
 }

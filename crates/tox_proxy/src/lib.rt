@@ -15,8 +15,8 @@ pub use tox_log::{
 };
 pub use tox_runs::{
     FileFault, MAX_INPUT, MemoryFiles, NamedFiles, PickFault, PickRequest, RealFiles, Setup,
-    SetupFault, StagesFault, ToxicsFault, dry_run, find_proxy, read_chain, read_file, read_setup,
-    stages_run,
+    SetupFault, StagesFault, ToxicsFault, dry_run, find_proxy, read_chain, read_file, read_opened,
+    read_setup, stages_run,
 };
 pub use tox_serve::{
     BrokenText, FilledText, LineForm, NoNotices, NoticeChannel, Notices, Room, ServeFault,

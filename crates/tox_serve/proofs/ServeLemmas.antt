@@ -13,9 +13,9 @@ use Rattle.tox_serve.specs.declared.fault.ServeFault.TheVariants.{ListenRefused,
 -- an address of one of the proxies, which is enabled, wasn't bound
 pub cause_of : (proxies : List Proxy) (proxy : Proxy) (fault : ServeFault) → Contains proxies proxy → proxy.enabled ≡ true
     → IsListenFault proxy fault → HasServeCause proxies false fault
-cause_of proxies proxy (ListenRefused name) listed enabled named =
+cause_of proxies proxy (ListenRefused name errno) listed enabled named =
     record { proxy = proxy; listed = listed; enabled = enabled; named = sym named }
-cause_of proxies proxy ReadyRefused listed enabled none = absurd none
+cause_of proxies proxy (ReadyRefused errno) listed enabled none = absurd none
 cause_of proxies proxy SpawnRefused listed enabled none = tt
 cause_of proxies proxy OutOfMemory listed enabled refused = tt
 

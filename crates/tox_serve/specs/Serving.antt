@@ -15,22 +15,22 @@ pub record HasEnabled (proxies : List Proxy) (name : List ℕ) : Type 0 where
 
 -- why an address of a proxy wasn't bound
 abbrev pub IsListenFault : Proxy → ServeFault → Type 0
-IsListenFault proxy (ListenRefused name) = name.now ≡ proxy.name
-IsListenFault proxy ReadyRefused = ⊥
+IsListenFault proxy (ListenRefused name errno) = name.now ≡ proxy.name
+IsListenFault proxy (ReadyRefused errno) = ⊥
 IsListenFault proxy SpawnRefused = ⊥
 IsListenFault proxy OutOfMemory = Unit {0}
 
 -- why an address for probes wasn't bound, where there is one
 abbrev pub IsReadyFault : Bool → ServeFault → Type 0
-IsReadyFault has_ready (ListenRefused name) = ⊥
-IsReadyFault has_ready ReadyRefused = IsTrue has_ready
+IsReadyFault has_ready (ListenRefused name errno) = ⊥
+IsReadyFault has_ready (ReadyRefused errno) = IsTrue has_ready
 IsReadyFault has_ready SpawnRefused = ⊥
 IsReadyFault has_ready OutOfMemory = Unit {0}
 
 -- why nothing is served: an address that couldn't be listened at is that of an enabled proxy, or the one for probes, where there is one
 abbrev pub HasServeCause : List Proxy → Bool → ServeFault → Type 0
-HasServeCause proxies has_ready (ListenRefused name) = HasEnabled proxies name.now
-HasServeCause proxies has_ready ReadyRefused = IsTrue has_ready
+HasServeCause proxies has_ready (ListenRefused name errno) = HasEnabled proxies name.now
+HasServeCause proxies has_ready (ReadyRefused errno) = IsTrue has_ready
 HasServeCause proxies has_ready SpawnRefused = Unit {0}
 HasServeCause proxies has_ready OutOfMemory = Unit {0}
 

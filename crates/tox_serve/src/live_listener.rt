@@ -1,6 +1,7 @@
 //! A listener that a stop of the run shuts.
 use crate::addresses::listen_address;
 use std::alloc::Global;
+use std::io;
 use std::net::{Net, TcpListener, TcpStream};
 use std::sync::{Arc, Wait};
 use tox_sockets::{LiveSocket, LiveSockets, prepare_listener};
@@ -8,9 +9,16 @@ use tox_sockets::{LiveSocket, LiveSockets, prepare_listener};
 /// Why an address isn't listened at.
 #[derive(Clone, Copy, PartialEq, Eq)]
 pub(crate) enum BindFault {
-    /// The system refused it.
-    Refused,
+    /// The system refused it, by this number. None: the host wasn't found.
+    Refused(Option<i32>),
     OutOfMemory,
+}
+
+impl BindFault {
+    /// The fault of a call that the system refused.
+    pub(crate) fn of(error: &io::Error) -> BindFault {
+        BindFault::Refused(error.raw_os_error())
+    }
 }
 
 /// A listener among the live sockets of a run.
@@ -33,11 +41,15 @@ impl LiveListener {
         let Ok(address) = listen_address(alloc, address) else {
             return Err(BindFault::OutOfMemory);
         };
-        let Ok(listener) = TcpListener::bind(rt, address.as_str()) else {
-            return Err(BindFault::Refused);
+        let listener = match TcpListener::bind(rt, address.as_str()) {
+            Ok(listener) => listener,
+            Err(error) => return Err(BindFault::of(&error)),
         };
-        if prepare_listener(&listener).is_err() || listener.set_nonblocking(true).is_err() {
-            return Err(BindFault::Refused);
+        if let Err(error) = prepare_listener(&listener) {
+            return Err(BindFault::of(&error));
+        }
+        if let Err(error) = listener.set_nonblocking(true) {
+            return Err(BindFault::of(&error));
         }
         let Ok(listener) = Arc::new(alloc, listener) else {
             return Err(BindFault::OutOfMemory);

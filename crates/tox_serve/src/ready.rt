@@ -28,7 +28,7 @@ pub(crate) fn listen_ready<'a, R: Net<Listener = TcpListener, Stream = TcpStream
     };
     match LiveListener::bind(rt, alloc, live, address) {
         Ok(bound) => Ok(Some(bound.listener)),
-        Err(BindFault::Refused) => Err(ServeFault::ReadyRefused),
+        Err(BindFault::Refused(errno)) => Err(ServeFault::ReadyRefused(errno)),
         Err(BindFault::OutOfMemory) => Err(ServeFault::OutOfMemory),
     }
 }

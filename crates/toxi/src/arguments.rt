@@ -3,9 +3,10 @@ use std::alloc::{AllocError, Global};
 use std::io;
 use thiserror::Error;
 use tox_arguments::{
-    Argument, COMMANDS, CommandForm, FAULTS, HelpText, PROGRAM, Topic, VERSION, ValueKind,
+    Argument, ArgumentHelp, COMMANDS, CommandForm, FAULTS, FaultForm, HelpText, PROGRAM, Takes,
+    Topic, ToxicsHelp, VERSION, ValueKind,
 };
-use tox_defs::Toxic;
+use tox_defs::{Attribute, Toxic};
 use tox_explain::TOXICITY;
 use tox_proxy::{JsonField, JsonItem, JsonValue, WriteFault, write_object};
 use tox_time::{Real, Stream};
@@ -38,7 +39,10 @@ pub fn arguments<R: Print + AllocGlobal>(rt: &R) -> Result<(), ArgumentsFault> {
     for topic in Topic::EACH {
         write_topic(rt, topic)?;
     }
-    write_faults(rt)
+    for fault in FAULTS {
+        write_fault(rt, fault)?;
+    }
+    Ok(())
 }
 
 /// Writes the line of the program, and those of its options.
@@ -80,6 +84,10 @@ fn write_argument<R: Print + AllocGlobal>(
     argument: &Argument,
 ) -> Result<(), ArgumentsFault> {
     let values = values_of(rt.alloc(), argument)?;
+    let help = format!(in rt.alloc(); "{}", ArgumentHelp(argument))?;
+    let range = range_of(rt.alloc(), argument)?;
+    let default = format!(in rt.alloc(); "{}", argument.absent)?;
+    let unless = items(rt.alloc(), argument.unless)?;
     let fields = [
         JsonField::text("command", command),
         JsonField::text("name", argument.name),
@@ -88,12 +96,34 @@ fn write_argument<R: Print + AllocGlobal>(
         JsonField::text("value", argument.value),
         JsonField::text("kind", argument.kind.name()),
         array("values", &values),
-        JsonField::text("help", argument.help),
+        JsonField::text("words", argument.help),
+        JsonField::text("help", help.as_str()),
+        JsonField::text("range", range.as_str()),
+        JsonField::text("unit", unit_of(argument)),
+        JsonField::text("default", default.as_str()),
+        JsonField::text("environment", argument.environment),
         flag("required", argument.needed),
+        array("unless", &unless),
         flag("repeatable", argument.is_repeatable()),
         flag("shared", argument.shared),
     ];
     write(rt, "argument", &fields)
+}
+
+/// The numbers that an option takes. Empty: it takes none.
+fn range_of(alloc: Global, argument: &Argument) -> Result<String, AllocError> {
+    match argument.takes {
+        Takes::Number(range) => format!(in alloc; "{range}"),
+        _ => Ok(String::new(alloc)),
+    }
+}
+
+/// What they count.
+fn unit_of(argument: &Argument) -> &'static str {
+    match argument.takes {
+        Takes::Number(range) => range.unit,
+        _ => "",
+    }
 }
 
 /// The names that a value may be. None: they aren't listed.
@@ -107,26 +137,65 @@ fn values_of(alloc: Global, argument: &Argument) -> Result<Vec<JsonItem<'static>
     }
 }
 
-/// Writes the line of a type of toxics: its name, and the keys of its short form.
+/// Writes the line of a type of toxics, with the keys of its short form, and those of its attributes.
 fn write_toxic<R: Print + AllocGlobal>(rt: &R, toxic: &Toxic) -> Result<(), ArgumentsFault> {
     let keys = keys_of(rt.alloc(), toxic)?;
-    let fields = [JsonField::text("name", toxic.name()), array("keys", &keys)];
-    write(rt, "toxic", &fields)
+    let fields = [
+        JsonField::text("name", toxic.name()),
+        JsonField::text("words", toxic.words()),
+        array("keys", &keys),
+    ];
+    write(rt, "toxic", &fields)?;
+    for attribute in toxic.attributes() {
+        write_attribute(rt, toxic.name(), attribute)?;
+    }
+    Ok(())
 }
 
 /// The keys of a toxic's short form.
 fn keys_of(alloc: Global, toxic: &Toxic) -> Result<Vec<JsonItem<'static>>, AllocError> {
-    let mut keys = items(alloc, toxic.attributes())?;
+    let mut keys = Vec::new(alloc);
+    for attribute in toxic.attributes() {
+        keys.push(JsonItem::Text(attribute.name))?;
+    }
     keys.push(JsonItem::Text(TOXICITY))?;
     Ok(keys)
 }
 
+/// Writes the line of an attribute. Where a value has to be given, its default is 0.
+fn write_attribute<R: Print>(
+    rt: &R,
+    toxic: &str,
+    attribute: &Attribute,
+) -> Result<(), ArgumentsFault> {
+    let fields = [
+        JsonField::text("toxic", toxic),
+        JsonField::text("name", attribute.name),
+        JsonField::text("unit", attribute.unit.words()),
+        JsonField::text("placeholder", attribute.unit.placeholder()),
+        JsonField::number("least", attribute.limits.least),
+        JsonField::number("most", attribute.limits.most),
+        flag("required", attribute.default().is_none()),
+        JsonField::number("default", attribute.default().unwrap_or(0)),
+        JsonField::text("words", attribute.words),
+    ];
+    write(rt, "attribute", &fields)
+}
+
 /// Writes the line of a topic of help. The text of the faults is that of their own lines.
 fn write_topic<R: Print + AllocGlobal>(rt: &R, topic: Topic) -> Result<(), ArgumentsFault> {
-    let text = match topic.text() {
-        HelpText::One(text) => text,
-        HelpText::Faults => "",
-    };
+    match topic.text() {
+        HelpText::One(text) => write_text(rt, topic, text),
+        HelpText::Toxics => {
+            let text = format!(in rt.alloc(); "{}", ToxicsHelp)?;
+            write_text(rt, topic, text.as_str())
+        }
+        HelpText::Toxic(_) | HelpText::Faults | HelpText::Schema(_) | HelpText::Fault(_) =>
+            write_text(rt, topic, ""),
+    }
+}
+
+fn write_text<R: Print>(rt: &R, topic: Topic, text: &str) -> Result<(), ArgumentsFault> {
     let fields = [
         JsonField::text("name", topic.name()),
         JsonField::text("about", topic.about()),
@@ -135,24 +204,16 @@ fn write_topic<R: Print + AllocGlobal>(rt: &R, topic: Topic) -> Result<(), Argum
     write(rt, "topic", &fields)
 }
 
-fn write_faults<R: Print + AllocGlobal>(rt: &R) -> Result<(), ArgumentsFault> {
-    for group in FAULTS {
-        for line in group.lines() {
-            write_fault(rt, line)?;
-        }
-    }
-    Ok(())
-}
-
-/// Writes a fault: its code, its name, and the line that has both and tells what it means.
-fn write_fault<R: Print + AllocGlobal>(rt: &R, line: &str) -> Result<(), ArgumentsFault> {
-    let (code, others) = line.split_once(' ').unwrap_or((line, ""));
-    let (head, _) = others.split_once(':').unwrap_or((others, ""));
-    let (name, _) = head.split_once(' ').unwrap_or((head, ""));
+/// Writes the line of a fault: its parts, and the line of help that has them all.
+fn write_fault<R: Print + AllocGlobal>(rt: &R, fault: &FaultForm) -> Result<(), ArgumentsFault> {
+    let line = format!(in rt.alloc(); "{fault}")?;
     let fields = [
-        JsonField::text("code", code),
-        JsonField::text("name", name),
-        JsonField::text("line", line),
+        JsonField::text("code", fault.code),
+        JsonField::text("name", fault.name),
+        JsonField::text("subject", fault.place),
+        JsonField::text("means", fault.means),
+        JsonField::text("advice", fault.advice),
+        JsonField::text("line", line.as_str()),
     ];
     write(rt, "fault", &fields)
 }

@@ -2,18 +2,17 @@
 ghost use Rattle.std.specs.Prelude.{◌≡◌, false};
 
 use crate::explaining::Explaining;
-use crate::fault::Fault;
 use crate::kept_input::KeptInput;
 use crate::link::{link_status, read_link};
 use crate::log_fault::fail_log;
 use crate::piped_output::PipedOutput;
 use crate::progress::{Progress, Terminals};
 use std::alloc::Global;
-use std::fs;
 use std::process::ExitCode;
 use std::rt::Files;
 use std::time::Clock;
 use tox_arguments::{DrawArguments, LinkArguments};
+use tox_explain::Failure;
 use tox_proxy::{ReplayFault, Verdict, draw_log, draw_run, judge_log};
 use tox_time::{Real, Sink};
 
@@ -37,12 +36,15 @@ pub fn draw<R: Input + Print + Eprint + Files + AllocGlobal + Clock>(
         DrawArguments::Log(name) => {
             let progress = Progress::new(rt, terminals, Some(1));
             let mut writer = Real::new(progress.writer(output.writer(rt)));
-            let drawn = draw_file(rt, rt.alloc(), &progress, name, &mut writer);
+            let drawn = draw_file(rt.alloc(), &progress, name, &mut writer);
             progress.clear();
             match drawn {
                 Ok(()) => ExitCode::SUCCESS,
                 Err(_) if output.reader_left() => ExitCode::SUCCESS,
-                Err(fault) => fail_log(rt, explaining, name, &fault),
+                Err(fault) => {
+                    let failure = Failure::Log(fault, progress.take_refusal());
+                    fail_log(rt, explaining, name, &failure)
+                }
             }
         }
     }
@@ -54,23 +56,24 @@ fn draw_link<R: Input + Print + AllocGlobal>(
     link: &LinkArguments<'_>,
     input: &mut KeptInput,
     output: &mut PipedOutput,
-) -> Result<(), Fault> {
+) -> Result<(), Failure<'static>> {
     let link = read_link(rt.alloc(), link)?;
     let mut reader = Real::new(input.reader(rt.reader()));
     let mut writer = Real::new(output.writer(rt));
-    draw_run(
+    match draw_run(
         rt.alloc(),
         &mut reader,
         &mut writer,
         &link.chain,
         &link.words,
-    )
-    .map_err(Fault::Dry)
+    ) {
+        Ok(()) => Ok(()),
+        Err(fault) => Err(Failure::Dry(fault)),
+    }
 }
 
 /// Judges the log in a file, and draws it unless it is unfaithful.
 fn draw_file<'a, 'p, R: Eprint + Files + Clock, W: Sink>(
-    rt: &R,
     alloc: Global,
     progress: &'p Progress<'p, R>,
     name: &'a str,
@@ -79,10 +82,10 @@ fn draw_file<'a, 'p, R: Eprint + Files + Clock, W: Sink>(
     requires { W.failed writer.old ≡ false }
 {
     progress.begin_log(name, 3);
-    let Ok(file) = fs::open(rt, name) else {
+    let Some(file) = progress.open(name) else {
         return Err(ReplayFault::Unreadable(name));
     };
-    match judge_log(alloc, &mut Real::new(progress.reader(file))) {
+    match judge_log(alloc, &mut Real::new(file)) {
         Ok(log) => {
             if let Verdict::Unfaithful(_) = log.verdict {
                 return Err(ReplayFault::NotFaithful(1));
@@ -90,17 +93,17 @@ fn draw_file<'a, 'p, R: Eprint + Files + Clock, W: Sink>(
         }
         Err(fault) => return Err(ReplayFault::of(name, &fault)),
     }
-    let Ok(first) = fs::open(rt, name) else {
+    let Some(first) = progress.open(name) else {
         return Err(ReplayFault::Unreadable(name));
     };
-    let Ok(second) = fs::open(rt, name) else {
+    let Some(second) = progress.open(name) else {
         return Err(ReplayFault::Unreadable(name));
     };
     draw_log(
         alloc,
         name,
-        &mut Real::new(progress.reader(first)),
-        &mut Real::new(progress.reader(second)),
+        &mut Real::new(first),
+        &mut Real::new(second),
         writer,
     )
 }

@@ -1,11 +1,11 @@
 //! `toxi dry`: arrivals on standard input, the result on standard output.
 use crate::explaining::Explaining;
-use crate::fault::Fault;
 use crate::kept_input::KeptInput;
 use crate::link::{link_status, read_link};
 use std::io;
 use std::process::ExitCode;
 use tox_arguments::LinkArguments;
+use tox_explain::Failure;
 use tox_proxy::dry_run;
 use tox_time::Real;
 
@@ -26,16 +26,18 @@ fn run<R: Input + Print + AllocGlobal>(
     rt: &R,
     link: &LinkArguments<'_>,
     input: &mut KeptInput,
-) -> Result<(), Fault> {
+) -> Result<(), Failure<'static>> {
     let link = read_link(rt.alloc(), link)?;
     let mut reader = Real::new(input.reader(rt.reader()));
     let mut writer = Real::new(io::writer(rt));
-    dry_run(
+    match dry_run(
         rt.alloc(),
         &mut reader,
         &mut writer,
         &link.chain,
         &link.words,
-    )
-    .map_err(Fault::Dry)
+    ) {
+        Ok(()) => Ok(()),
+        Err(fault) => Err(Failure::Dry(fault)),
+    }
 }

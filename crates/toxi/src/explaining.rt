@@ -1,11 +1,10 @@
 //! What stands below a fault's line on standard error.
 use crate::fail;
-use crate::near::tell_near;
 use std::env;
-use std::fmt::Display;
 use std::process::ExitCode;
 use std::rt::Env;
-use tox_explain::{Inputs, explain};
+use tox_explain::{Failure, Inputs, explain, near_name};
+use tox_proxy::VisibleName;
 
 /// The variable of the environment that asks for explanations by `1`, and refuses them by `0`.
 const VARIABLE: &str = "TOXI_EXPLAIN";
@@ -45,29 +44,25 @@ impl Explaining {
     }
 
     /// Prints the lines below a fault's. What can't be printed is left out: the fault itself was reported.
-    pub fn explain<R: Eprint + AllocGlobal, F: Display>(
-        self,
-        rt: &R,
-        fault: &F,
-        inputs: &Inputs<'_>,
-    ) {
+    fn explain<R: Eprint + AllocGlobal>(self, rt: &R, failure: &Failure<'_>, inputs: &Inputs<'_>) {
         match self {
             Explaining::Nothing => {}
-            Explaining::NearName => tell_near(rt, fault, inputs),
-            Explaining::Whole => print_explanation(rt, fault, inputs),
+            Explaining::NearName => print_near_name(rt, failure, inputs),
+            Explaining::Whole => print_explanation(rt, failure, inputs),
         }
     }
-}
 
-/// Tells a fault that none of the inputs explains. Returns the status of the program.
-pub fn fail_explained<R: Eprint + AllocGlobal, F: Display>(
-    rt: &R,
-    explaining: Explaining,
-    fault: &F,
-) -> ExitCode {
-    let status = fail(rt, fault);
-    explaining.explain(rt, fault, &Inputs::none());
-    status
+    /// Tells why a command failed, and explains it by what it was given. Returns the status of the program.
+    pub fn fail<R: Eprint + AllocGlobal>(
+        self,
+        rt: &R,
+        failure: &Failure<'_>,
+        inputs: &Inputs<'_>,
+    ) -> ExitCode {
+        let status = fail(rt, failure);
+        self.explain(rt, failure, inputs);
+        status
+    }
 }
 
 fn is_asked_by_environment<R: Env + AllocGlobal>(rt: &R) -> Option<bool> {
@@ -78,11 +73,17 @@ fn is_asked_by_environment<R: Env + AllocGlobal>(rt: &R) -> Option<bool> {
     }
 }
 
-fn print_explanation<R: Eprint + AllocGlobal, F: Display>(rt: &R, fault: &F, inputs: &Inputs<'_>) {
-    let Ok(line) = format!(in rt.alloc(); "{fault}") else {
-        return;
-    };
-    if let Ok(text) = explain(rt.alloc(), line.as_str(), inputs) {
+/// Prints the nearest name to a type or an attribute that there isn't, if one is near.
+fn print_near_name<R: Eprint + AllocGlobal>(rt: &R, failure: &Failure<'_>, inputs: &Inputs<'_>) {
+    if let Ok(Some(found)) = near_name(rt.alloc(), failure, inputs) {
+        let name = VisibleName(found.name.as_str());
+        let near = found.nearest;
+        let _ = eprintln!(rt; "toxi: {name}: {near}?");
+    }
+}
+
+fn print_explanation<R: Eprint + AllocGlobal>(rt: &R, failure: &Failure<'_>, inputs: &Inputs<'_>) {
+    if let Ok(text) = explain(rt.alloc(), failure, inputs) {
         let _ = eprint!(rt; "{text}");
     }
 }

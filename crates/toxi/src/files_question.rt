@@ -3,13 +3,15 @@ ghost use Rattle.std.specs.Prelude.{◌≡◌, false};
 
 use crate::explaining::Explaining;
 use crate::files_status::{FileNames, fail_files};
-use crate::kept_files::KeptFiles;
+use crate::kept_files::{FilesRead, KeptFiles};
+use crate::toxicities::{tell_of_forecast, tell_of_pick};
+use crate::unknown_toxic::tell_unknown_toxic;
 use std::alloc::Global;
 use std::io;
 use std::process::ExitCode;
 use std::rt::Files;
-use thiserror::Error;
-use tox_proxy::{CheckFault, CheckRequest, ForecastRequest, NamedFiles, PickFault, PickRequest};
+use tox_explain::Failure;
+use tox_proxy::{CheckRequest, ForecastRequest, NamedFiles, PickRequest};
 use tox_time::{Real, Sink};
 
 /// A question about the two files.
@@ -18,15 +20,6 @@ pub enum FilesQuestion<'a> {
     Check(&'a CheckRequest<'a>),
     Pick(&'a PickRequest<'a>),
     Forecast(&'a ForecastRequest<'a>),
-}
-
-/// Why a question isn't answered, or a check found something.
-#[derive(Clone, Copy, Debug, Error)]
-enum QuestionFault<'a> {
-    #[error("{0}")]
-    Check(CheckFault<'a>),
-    #[error("{0}")]
-    Pick(PickFault<'a>),
 }
 
 /// Reads the files and prints the answer. Returns the status of the program.
@@ -39,13 +32,16 @@ pub fn answer_files<R: Files + Print + Eprint + AllocGlobal>(
     let mut writer = Real::new(io::writer(rt));
     let files = KeptFiles::new(rt, rt.alloc(), explaining);
     match question.answer(&files, rt.alloc(), &mut writer) {
-        Ok(()) => ExitCode::SUCCESS,
-        Err(fault) => fail_files(
+        Ok(()) => {
+            question.tell(rt, &files.into_read());
+            ExitCode::SUCCESS
+        }
+        Err(failure) => fail_files(
             rt,
             explaining,
             &question.names(),
             &files.into_read(),
-            &fault,
+            failure,
         ),
     }
 }
@@ -64,25 +60,37 @@ impl<'a> FilesQuestion<'a> {
         }
     }
 
+    /// Tells what a person asks next, where the files were kept.
+    fn tell<R: Eprint + AllocGlobal>(&self, rt: &R, files: &FilesRead) {
+        match self {
+            FilesQuestion::Check(_) => {}
+            FilesQuestion::Pick(pick) => tell_of_pick(rt, pick, files),
+            FilesQuestion::Forecast(forecast) => {
+                tell_unknown_toxic(rt, forecast, files);
+                tell_of_forecast(rt, forecast, files);
+            }
+        }
+    }
+
     /// Writes the answer.
     fn answer<F: NamedFiles, W: Sink>(
         &self,
         files: &F,
         alloc: Global,
         writer: &mut W,
-    ) -> Result<(), QuestionFault<'a>>
+    ) -> Result<(), Failure<'a>>
         requires { W.failed writer.old ≡ false }
     {
         match self {
             FilesQuestion::Check(check) => check
                 .answer(files, alloc, writer)
-                .map_err(|fault| QuestionFault::Check(fault)),
+                .map_err(|fault| Failure::from(fault)),
             FilesQuestion::Pick(pick) => pick
                 .answer(files, alloc, writer)
-                .map_err(|fault| QuestionFault::Pick(fault)),
+                .map_err(|fault| Failure::from(fault)),
             FilesQuestion::Forecast(forecast) => forecast
                 .answer(files, alloc, writer)
-                .map_err(|fault| QuestionFault::Pick(fault)),
+                .map_err(|fault| Failure::from(fault)),
         }
     }
 }

@@ -1,22 +1,7 @@
 //! A folder that a command makes for its files.
+use std::fs;
 use std::rt::Files;
-use std::{fs, io};
-use thiserror::Error;
-
-/// Why a folder isn't taken.
-#[derive(Drop, Debug, Error)]
-pub enum FolderRefusal {
-    #[error("{0}")]
-    Failed(io::Error),
-    #[error("it isn't empty")]
-    NotEmpty,
-}
-
-impl From<io::Error> for FolderRefusal {
-    fn from(error: io::Error) -> FolderRefusal {
-        FolderRefusal::Failed(error)
-    }
-}
+use tox_explain::FolderRefusal;
 
 /// Makes a folder, and its parents. One that is there is taken if it is empty.
 pub fn make_folder<R: Files + AllocGlobal + Copy>(

@@ -1,36 +1,22 @@
 //! One proxy and its toxics on the command line of `toxi serve`: what they set up, and the files that mean the same.
 use crate::explaining::Explaining;
 use crate::fail;
-use crate::folder::{FolderRefusal, make_folder};
-use crate::reasons::{printed, text_of};
+use crate::folder::make_folder;
 use std::alloc::{AllocError, Global};
-use std::fmt::Display;
 use std::fs::OpenOptions;
 use std::io;
 use std::io::Write;
 use std::process::ExitCode;
 use std::rt::Files;
-use thiserror::Error;
 use tox_arguments::InlineArguments;
-use tox_explain::Inputs;
-use tox_proxy::{InlineFault, InlineSetup, InlineToxic, VisibleName, inline_setup};
+use tox_explain::{Failure, FolderRefusal, Inputs};
+use tox_proxy::{InlineSetup, InlineToxic, inline_setup};
 
 /// The populate file.
 const POPULATE: &str = "proxies.json";
 
 /// The script.
 const SCRIPT: &str = "script.toml";
-
-/// Why the files were not printed.
-#[derive(Debug, Drop, Error)]
-pub enum PrintFilesFault<'a> {
-    /// The command line sets nothing up.
-    #[error("{0}")]
-    Inline(InlineFault),
-    /// The folder of this name isn't taken, or doesn't take the files.
-    #[error("P7 FilesRefused {}", VisibleName(.0))]
-    Refused(&'a str, FolderRefusal),
-}
 
 /// Writes the files that mean the same as the arguments into a folder, which is made or is empty. Returns the status of the
 /// program.
@@ -43,48 +29,31 @@ pub fn print_files<R: Files + Eprint + AllocGlobal + Copy>(
 ) -> ExitCode {
     match write_files(rt, arguments, folder) {
         Ok(()) => ExitCode::SUCCESS,
-        Err(fault) => {
-            let reason = match &fault {
-                PrintFilesFault::Refused(_, reason) => printed(rt, reason),
-                PrintFilesFault::Inline(_) => None,
-            };
-            fail_inline(rt, explaining, arguments, reason, &fault)
-        }
+        Err(failure) => fail_inline(rt, explaining, arguments, &failure),
     }
 }
 
-/// Tells a fault of one proxy and its toxics on the command line, with the reason that the system gives.
-pub fn fail_inline<R: Eprint + AllocGlobal, F: Display>(
+/// Tells why one proxy and its toxics on the command line failed.
+pub fn fail_inline<R: Eprint + AllocGlobal>(
     rt: &R,
     explaining: Explaining,
     arguments: &InlineArguments<'_>,
-    reason: Option<String>,
-    fault: &F,
+    failure: &Failure<'_>,
 ) -> ExitCode {
-    let status = fail(rt, fault);
-    if let Ok(toxics) = forms_of(rt.alloc(), &arguments.toxics) {
-        explain_inline(rt, explaining, arguments, &toxics, text_of(&reason), fault);
+    match forms_of(rt.alloc(), &arguments.toxics) {
+        Ok(toxics) => explaining.fail(rt, failure, &inputs_of(arguments, &toxics)),
+        Err(_) => fail(rt, failure),
     }
-    status
 }
 
-/// Explains such a fault.
-fn explain_inline<'x, R: Eprint + AllocGlobal, F: Display>(
-    rt: &R,
-    explaining: Explaining,
-    arguments: &'x InlineArguments<'x>,
-    toxics: &'x [&'x str],
-    reason: Option<&'x str>,
-    fault: &F,
-) {
-    let inputs = Inputs {
+/// What an explanation reads of the command line.
+fn inputs_of<'x>(arguments: &'x InlineArguments<'x>, toxics: &'x [&'x str]) -> Inputs<'x> {
+    Inputs {
         toxics,
         listen: Some(arguments.listen),
         upstream: Some(arguments.upstream),
-        reason,
         ..Inputs::none()
-    };
-    explaining.explain(rt, fault, &inputs);
+    }
 }
 
 /// The short forms of toxics, in the order typed.
@@ -100,14 +69,14 @@ fn write_files<'a, R: Files + AllocGlobal + Copy>(
     rt: &R,
     arguments: &InlineArguments<'_>,
     folder: &'a str,
-) -> Result<(), PrintFilesFault<'a>> {
+) -> Result<(), Failure<'a>> {
     let made = match inline_setup(rt.alloc(), &arguments.inline()) {
         Ok(made) => made,
-        Err(fault) => return Err(PrintFilesFault::Inline(fault)),
+        Err(fault) => return Err(Failure::from(fault)),
     };
     match fill_folder(rt, folder, &made) {
         Ok(()) => Ok(()),
-        Err(reason) => Err(PrintFilesFault::Refused(folder, reason)),
+        Err(refusal) => Err(Failure::FilesRefused(folder, refusal)),
     }
 }
 

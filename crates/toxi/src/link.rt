@@ -1,13 +1,11 @@
 //! The link that a command line describes: its words and its toxics.
 use crate::explaining::Explaining;
-use crate::fail;
-use crate::fault::Fault;
 use crate::kept_input::KeptInput;
 use std::alloc::Global;
 use std::process::ExitCode;
 use tox_arguments::LinkArguments;
 use tox_defs::Chain;
-use tox_explain::Inputs;
+use tox_explain::{Failure, Inputs};
 use tox_proxy::read_chain;
 use tox_words::{Words, WordsFault};
 
@@ -19,10 +17,15 @@ pub struct LinkConfig {
 }
 
 /// Reads the words, then the toxics from the left.
-pub fn read_link(alloc: Global, link: &LinkArguments<'_>) -> Result<LinkConfig, Fault> {
-    let words = words_of(alloc, link.words).map_err(Fault::Words)?;
-    let chain = read_chain(link.lanes, &link.toxics).map_err(Fault::Toxics)?;
-    Ok(LinkConfig { words, chain })
+pub fn read_link(alloc: Global, link: &LinkArguments<'_>) -> Result<LinkConfig, Failure<'static>> {
+    let words = match words_of(alloc, link.words) {
+        Ok(words) => words,
+        Err(fault) => return Err(Failure::Words(fault)),
+    };
+    match read_chain(link.lanes, &link.toxics) {
+        Ok(chain) => Ok(LinkConfig { words, chain }),
+        Err(fault) => Err(Failure::Toxics(fault)),
+    }
 }
 
 /// The status of a command that reads a link and perhaps arrivals.
@@ -31,20 +34,18 @@ pub fn link_status<'x, R: Eprint + AllocGlobal>(
     explaining: Explaining,
     link: &'x LinkArguments<'x>,
     input: &'x KeptInput,
-    done: Result<(), Fault>,
+    done: Result<(), Failure<'_>>,
 ) -> ExitCode {
     let Err(fault) = done else {
         return ExitCode::SUCCESS;
     };
-    let status = fail(rt, &fault);
     let inputs = Inputs {
         toxics: &link.toxics,
         words: link.words,
         lines: input.text(),
         ..Inputs::none()
     };
-    explaining.explain(rt, &fault, &inputs);
-    status
+    explaining.fail(rt, &fault, &inputs)
 }
 
 /// The table of words that a text gives. Without one it is the one word 0.

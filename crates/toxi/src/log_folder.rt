@@ -9,13 +9,7 @@ use std::io::Write;
 use std::rt::Files;
 use std::sync::Wait;
 use std::{fs, io};
-use thiserror::Error;
-use tox_proxy::{LogFiles, NoticeChannel, VisibleName};
-
-/// The folder of logs isn't taken.
-#[derive(Clone, Copy, Debug, Error)]
-#[error("P6 LogRefused {}", VisibleName(.0))]
-pub struct LogRefused<'a>(pub &'a str);
+use tox_proxy::{LogFiles, NoticeChannel};
 
 /// The logs in a folder. None where no folder is named: then no log is kept.
 #[derive(Drop)]

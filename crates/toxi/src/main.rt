@@ -6,7 +6,6 @@ mod arguments;
 mod draw;
 mod dry;
 mod explaining;
-mod fault;
 mod files_question;
 mod files_status;
 mod folder;
@@ -19,13 +18,11 @@ mod log_fault;
 mod log_folder;
 mod log_names;
 mod migrate;
-mod near;
 mod notices;
 mod output;
 mod piped_output;
 mod plan;
 mod progress;
-mod reasons;
 mod replay;
 mod replay_texts;
 mod report;
@@ -33,6 +30,8 @@ mod serve;
 mod shutdown;
 mod stages;
 mod status;
+mod toxicities;
+mod unknown_toxic;
 mod wait;
 mod warning_lines;
 mod warnings;
@@ -53,7 +52,8 @@ use std::sync::Wait;
 use std::thread::Threads;
 use std::time::Clock;
 use std::{env, io};
-use tox_arguments::Task;
+use tox_arguments::{HelpLines, Task};
+use tox_explain::advise;
 use tox_proxy::VisibleName;
 
 /// The status of a command line that is refused.
@@ -73,7 +73,10 @@ fn main(rt: HostRuntime) -> ExitCode {
     let Ok(arguments) = arguments.collect::<Vec<String>>(rt.alloc()) else {
         return fail(&rt, &"L0 OutOfMemory");
     };
-    match tox_arguments::read(rt.alloc(), arguments.as_slice()) {
+    let Ok(lines) = HelpLines::new(rt.alloc()) else {
+        return fail(&rt, &"L0 OutOfMemory");
+    };
+    match tox_arguments::read(rt.alloc(), arguments.as_slice(), &lines) {
         Ok(line) => {
             let terminals = Terminals {
                 output: rt.stdout().is_terminal(),
@@ -82,7 +85,7 @@ fn main(rt: HostRuntime) -> ExitCode {
             let explaining = Explaining::of(&rt, line.explain, terminals.errors);
             perform(&rt, explaining, terminals, &line.task)
         },
-        Err(refusal) => refuse(&rt, &refusal),
+        Err(refusal) => refuse(&rt, &refusal, arguments.as_slice()),
     }
 }
 
@@ -115,7 +118,10 @@ where
             let explaining = explaining.with_verbose(request.verbose);
             answer_files(rt, explaining, FilesQuestion::Check(request))
         }
-        Task::Pick(request) => answer_files(rt, explaining, FilesQuestion::Pick(request)),
+        Task::Pick { request, verbose } => {
+            let explaining = explaining.with_verbose(*verbose);
+            answer_files(rt, explaining, FilesQuestion::Pick(request))
+        }
         Task::Forecast(request) => answer_files(rt, explaining, FilesQuestion::Forecast(request)),
         Task::Migrate(script) => migrate::migrate(rt, explaining, script),
         Task::PrintFiles(arguments, folder) => {
@@ -145,12 +151,19 @@ fn fail<F: Display>(rt: &impl Eprint, fault: &F) -> ExitCode {
 }
 
 /// Prints what `clap` answers in place of a task: help, the version, or what is wrong with the command line.
-fn refuse<R: Print + Eprint + AllocGlobal>(rt: &R, refusal: &Error) -> ExitCode {
+fn refuse<R: Print + Eprint + AllocGlobal>(
+    rt: &R,
+    refusal: &Error,
+    arguments: &[String],
+) -> ExitCode {
     if refusal.kind() == ErrorKind::OutOfMemory {
         return fail(rt, &"L0 OutOfMemory");
     }
     if refusal.use_stderr() {
         print_mistake(rt, refusal);
+        if let Ok(advice) = advise(rt.alloc(), arguments, refusal.kind()) {
+            let _ = eprint!(rt; "{advice}");
+        }
         return ExitCode::from(refusal.exit_code() as u8);
     }
     match refusal.print(rt) {

@@ -66,6 +66,8 @@ pub struct Progress<'r, R> {
     rt: &'r R,
     terminals: Terminals,
     work: Cell<Work>,
+    /// Why the system refused a log.
+    refusal: Cell<Option<io::Error>>,
 }
 
 impl<'r, R: Clock + Eprint + Files> Progress<'r, R> {
@@ -89,6 +91,7 @@ impl<'r, R: Clock + Eprint + Files> Progress<'r, R> {
                 read: 0,
                 size: 0,
             }),
+            refusal: Cell::new(None),
         }
     }
 
@@ -116,12 +119,25 @@ impl<'r, R: Clock + Eprint + Files> Progress<'r, R> {
         self.rt
     }
 
-    /// A reader of a log, whose bytes are counted.
-    pub fn reader<F>(&'r self, file: F) -> CountedReader<'r, F, R> {
-        CountedReader {
-            file,
-            progress: self,
+    /// Opens a log, whose bytes are counted. None if the system refuses it.
+    pub fn open(&'r self, name: &str) -> Option<CountedReader<'r, R::File, R>> {
+        match fs::open(self.rt, name) {
+            Ok(file) => Some(CountedReader {
+                file,
+                progress: self,
+            }),
+            Err(error) => {
+                self.refusal.set(Some(error));
+                None
+            }
         }
+    }
+
+    /// Why the system refused a log since the last call, if it did.
+    pub fn take_refusal(&self) -> Option<io::Error> {
+        let refusal = self.refusal.get();
+        self.refusal.set(None);
+        refusal
     }
 
     /// A writer to the output, which leaves no line of progress beside what it writes.
@@ -200,9 +216,16 @@ pub struct CountedReader<'r, F, R> {
 
 impl<'r, F: Read, R: Clock + Eprint + Files> Read for CountedReader<'r, F, R> {
     fn read(&mut self, buf: &mut [u8]) -> io::Result<usize> {
-        let count = self.file.read(buf)?;
-        self.progress.add(count as u64);
-        Ok(count)
+        match self.file.read(buf) {
+            Ok(count) => {
+                self.progress.add(count as u64);
+                Ok(count)
+            }
+            Err(error) => {
+                self.progress.refusal.set(Some(error));
+                Err(error)
+            }
+        }
     }
 }
 

@@ -1,18 +1,18 @@
 //! `toxi replay`: what logs are, on standard output.
 ghost use Rattle.std.specs.Prelude.{◌≡◌, false};
 
-use crate::explaining::{Explaining, fail_explained};
+use crate::explaining::Explaining;
 use crate::log_fault::fail_log;
 use crate::log_names::{LogTask, NamesTaken, log_count, take_names};
 use crate::piped_output::PipedOutput;
 use crate::progress::{Progress, Terminals};
 use crate::replay_texts::print_log;
 use std::alloc::Global;
-use std::fs;
 use std::process::ExitCode;
 use std::rt::Files;
 use std::time::Clock;
 use tox_arguments::{ReplayArguments, ReplayMode};
+use tox_explain::{Failure, Inputs};
 use tox_proxy::{ReplayFault, Verdict, write_judged, write_judged_json};
 use tox_time::{Real, Sink};
 
@@ -51,7 +51,7 @@ impl<'p, R: Print + Eprint + Files + AllocGlobal + Clock> LogTask<R> for Judging
         let json = self.json;
         let progress = self.progress;
         let mut writer = Real::new(progress.writer(self.output.writer(rt)));
-        match judge_into(rt, rt.alloc(), progress, name, json, &mut writer) {
+        match judge_into(rt.alloc(), progress, name, json, &mut writer) {
             Ok(Verdict::Unfaithful(_)) => self.unfaithful = self.unfaithful.saturating_add(1),
             Ok(_) => {}
             Err(_) if self.output.reader_left() => return false,
@@ -73,7 +73,8 @@ impl<'p, R: Eprint + Files + AllocGlobal + Clock> Judging<'p, R> {
     /// Tells the fault of a log.
     fn fail(&mut self, rt: &R, name: &str, fault: &ReplayFault<'_>) {
         self.progress.clear();
-        fail_log(rt, self.explaining, name, fault);
+        let failure = Failure::Log(*fault, self.progress.take_refusal());
+        fail_log(rt, self.explaining, name, &failure);
         self.failed = true;
     }
 }
@@ -110,7 +111,8 @@ pub fn last_status<R: Eprint + AllocGlobal>(
     failed: bool,
 ) -> ExitCode {
     if unfaithful > 0 {
-        return fail_explained(rt, explaining, &ReplayFault::NotFaithful(unfaithful));
+        let failure = Failure::from(ReplayFault::NotFaithful(unfaithful));
+        return explaining.fail(rt, &failure, &Inputs::none());
     }
     if failed {
         ExitCode::FAILURE
@@ -121,7 +123,6 @@ pub fn last_status<R: Eprint + AllocGlobal>(
 
 /// Judges the log in a file, and prints its line.
 fn judge_into<'a, 'p, R: Eprint + Files + Clock, W: Sink>(
-    rt: &R,
     alloc: Global,
     progress: &'p Progress<'p, R>,
     name: &'a str,
@@ -131,10 +132,10 @@ fn judge_into<'a, 'p, R: Eprint + Files + Clock, W: Sink>(
     requires { W.failed writer.old ≡ false }
 {
     progress.begin_log(name, 1);
-    let Ok(file) = fs::open(rt, name) else {
+    let Some(file) = progress.open(name) else {
         return Err(ReplayFault::Unreadable(name));
     };
-    let mut reader = Real::new(progress.reader(file));
+    let mut reader = Real::new(file);
     if json {
         write_judged_json(alloc, name, &mut reader, writer)
     } else {

@@ -2,34 +2,21 @@
 ghost use Rattle.std.specs.Prelude.{◌≡◌, false};
 
 use crate::explaining::Explaining;
-use crate::fail;
 use crate::log_fault::fail_log;
 use crate::piped_output::PipedOutput;
 use crate::progress::Progress;
 use std::alloc::Global;
-use std::fs;
 use std::process::ExitCode;
 use std::rt::Files;
 use std::time::Clock;
-use thiserror::Error;
 use tox_arguments::ReplayMode;
 use tox_defs::Lanes;
-use tox_explain::Inputs;
+use tox_explain::{Failure, Inputs};
 use tox_proxy::{
     HeardFault, OpenLog, ReplayFault, ToxicsFault, judge_log, print_heard, print_meant,
     print_words, read_chain,
 };
 use tox_time::{Real, Sink, Source};
-
-/// Why what a log says was not printed whole.
-#[derive(Clone, Copy, Debug, Error)]
-pub enum LogTextFault<'a> {
-    /// A toxic of the command line is refused.
-    #[error("{0}")]
-    Toxics(ToxicsFault),
-    #[error("{0}")]
-    Log(ReplayFault<'a>),
-}
 
 /// Prints what a log says. It is read to its end before anything is printed. Returns the status of the program.
 pub fn print_log<'p, R: Print + Eprint + Files + AllocGlobal + Clock>(
@@ -41,67 +28,57 @@ pub fn print_log<'p, R: Print + Eprint + Files + AllocGlobal + Clock>(
 ) -> ExitCode {
     if let ReplayMode::Result(toxics) = mode {
         if let Err(fault) = read_chain(Lanes::ThirtyTwo, toxics) {
-            return fail_toxics(rt, explaining, toxics, &fault);
+            let inputs = Inputs {
+                toxics,
+                ..Inputs::none()
+            };
+            return explaining.fail(rt, &Failure::Toxics(fault), &inputs);
         }
     }
     let mut output = PipedOutput::new();
     let mut writer = Real::new(progress.writer(output.writer(rt)));
-    let printed = print_file(rt, rt.alloc(), progress, mode, file, &mut writer);
+    let printed = print_file(rt.alloc(), progress, mode, file, &mut writer);
     progress.clear();
     match printed {
         Ok(()) => ExitCode::SUCCESS,
         Err(_) if output.reader_left() => ExitCode::SUCCESS,
-        Err(fault) => fail_log(rt, explaining, file, &fault),
+        Err(failure) => {
+            let failure = failure.because(progress.take_refusal());
+            fail_log(rt, explaining, file, &failure)
+        }
     }
-}
-
-/// Tells a fault of the toxics of a command line.
-fn fail_toxics<'x, R: Eprint + AllocGlobal>(
-    rt: &R,
-    explaining: Explaining,
-    toxics: &'x [&'x str],
-    fault: &ToxicsFault,
-) -> ExitCode {
-    let status = fail(rt, fault);
-    let inputs = Inputs {
-        toxics,
-        ..Inputs::none()
-    };
-    explaining.explain(rt, fault, &inputs);
-    status
 }
 
 /// Prints what the log in a file says.
 fn print_file<'a, 'p, R: Eprint + Files + Clock, W: Sink>(
-    rt: &R,
     alloc: Global,
     progress: &'p Progress<'p, R>,
     mode: &ReplayMode<'_>,
     name: &'a str,
     writer: &mut W,
-) -> Result<(), LogTextFault<'a>>
+) -> Result<(), Failure<'a>>
     requires { W.failed writer.old ≡ false }
 {
     progress.begin_log(name, 2);
-    let unreadable = LogTextFault::Log(ReplayFault::Unreadable(name));
-    let Ok(file) = fs::open(rt, name) else {
+    let unreadable = Failure::from(ReplayFault::Unreadable(name));
+    let Some(file) = progress.open(name) else {
         return Err(unreadable);
     };
-    if let Err(fault) = judge_log(alloc, &mut Real::new(progress.reader(file))) {
-        return Err(LogTextFault::Log(ReplayFault::of(name, &fault)));
+    if let Err(fault) = judge_log(alloc, &mut Real::new(file)) {
+        return Err(Failure::from(ReplayFault::of(name, &fault)));
     }
-    let Ok(file) = fs::open(rt, name) else {
+    let Some(file) = progress.open(name) else {
         return Err(unreadable);
     };
-    let mut reader = Real::new(progress.reader(file));
+    let mut reader = Real::new(file);
     match print_text(alloc, mode, &mut reader, writer) {
         Ok(()) => Ok(()),
-        Err(TextFault::Toxics(fault)) => Err(LogTextFault::Toxics(fault)),
+        Err(TextFault::Toxics(fault)) => Err(Failure::Toxics(fault)),
         Err(TextFault::Heard(HeardFault::Log(fault))) => {
-            Err(LogTextFault::Log(ReplayFault::of(name, &fault)))
+            Err(Failure::from(ReplayFault::of(name, &fault)))
         }
         Err(TextFault::Heard(HeardFault::WriteFault)) => {
-            Err(LogTextFault::Log(ReplayFault::WriteFault))
+            Err(Failure::from(ReplayFault::WriteFault))
         }
     }
 }

@@ -1,16 +1,16 @@
 //! `toxi report`: the page of a run, on standard output.
-use crate::explaining::{Explaining, fail_explained};
+use crate::explaining::Explaining;
 use crate::log_fault::fail_log;
 use crate::log_names::{LogTask, NamesTaken, log_count, take_names};
 use crate::piped_output::PipedOutput;
 use crate::progress::{CountedReader, Progress, Terminals};
 use crate::replay::last_status;
-use std::fs;
 use std::marker::PhantomData;
 use std::process::ExitCode;
 use std::rt::Files;
 use std::time::Clock;
 use tox_arguments::ReportArguments;
+use tox_explain::{Failure, Inputs};
 use tox_proxy::{LogStore, Report};
 use tox_time::Real;
 
@@ -26,10 +26,7 @@ impl<'p, R: Eprint + Files + Clock> LogStore for LogsInFiles<'p, R> {
 
     fn open(&self, name: &str) -> Option<Real<CountedReader<'p, R::File, R>>> {
         self.progress.begin_log(name, 1);
-        match fs::open(self.rt, name) {
-            Ok(file) => Some(Real::new(self.progress.reader(file))),
-            Err(_) => None,
-        }
+        self.progress.open(name).map(Real::new)
     }
 }
 
@@ -63,7 +60,8 @@ impl<'p, R: Eprint + Files + AllocGlobal + Clock> Collected<'p, R> {
             Ok(()) => true,
             Err(fault) => {
                 self.progress.clear();
-                fail_log(rt, self.explaining, name, &fault);
+                let failure = Failure::Log(fault, self.progress.take_refusal());
+                fail_log(rt, self.explaining, name, &failure);
                 self.failed = true;
                 !fault.ends()
             }
@@ -135,6 +133,6 @@ fn print_page<'p, R: Print + Eprint + Files + AllocGlobal + Clock>(
     match written {
         Ok(()) => last_status(rt, explaining, unfaithful, failed),
         Err(_) if output.reader_left() => ExitCode::SUCCESS,
-        Err(fault) => fail_explained(rt, explaining, &fault),
+        Err(fault) => explaining.fail(rt, &Failure::from(fault), &Inputs::none()),
     }
 }

@@ -1,28 +1,26 @@
 //! `toxi serve`: proxies that listen. Each line is on standard output as it comes.
 use crate::any_seed::any_seed;
 use crate::explaining::Explaining;
-use crate::fail;
 use crate::files_status::{FileNames, fail_files};
 use crate::folder::make_folder;
 use crate::kept_files::KeptFiles;
-use crate::log_folder::{LogFolder, LogRefused};
+use crate::log_folder::LogFolder;
 use crate::notices::{PrintedNotices, send_notice};
 use crate::output::PatientOutput;
-use crate::reasons::{listen_reason, printed, text_of};
 use crate::shutdown::Shutdown;
+use crate::toxicities::send_toxicities;
 use crate::warning_lines::send_warnings;
 use crate::warnings::print_warnings;
 use std::alloc::Global;
-use std::fmt::Display;
 use std::fs;
 use std::rt::Files;
 use std::sync::{Mutex, Wait};
 use std::time::Clock;
 use tox_arguments::{ServeArguments, ServeSource};
-use tox_explain::Inputs;
+use tox_explain::{Failure, Inputs};
 use tox_proxy::{
-    InlineFault, NoticeChannel, ServeFault, ServeOptions, ServeRuntime, Setup, Stop, find_proxy,
-    inline_setup, read_setup, serve_with, tell_waiting,
+    InlineFault, NoticeChannel, ServeFault, ServeOptions, ServeRuntime, Setup, Stop, inline_setup,
+    read_setup, serve_with, tell_waiting,
 };
 
 /// A file that gives and takes nothing.
@@ -126,6 +124,14 @@ fn owned(alloc: Global, text: &str) -> Result<String, InlineFault> {
     text.to_string(alloc).map_err(|_| InlineFault::OutOfMemory)
 }
 
+/// A text, if it is there.
+fn text_of(text: &Option<String>) -> Option<&str> {
+    match text {
+        Some(text) => Some(text.as_str()),
+        None => None,
+    }
+}
+
 /// An owned copy of a text, if there is one.
 fn owned_where(alloc: Global, text: Option<&str>) -> Result<Option<String>, InlineFault> {
     match text {
@@ -179,7 +185,7 @@ where
                 script,
                 stream: None,
             };
-            fail_files(rt, job.explaining, &names, &files, &fault);
+            fail_files(rt, job.explaining, &names, &files, Failure::from(fault));
             1
         }
     }
@@ -197,19 +203,12 @@ where
     R::Dir: Send + 'static,
 {
     if let Some(folder) = job.folder() {
-        if let Err(reason) = make_folder(rt, folder) {
-            let nowhere = RefusedAddress::none();
-            return refused(rt, job, nowhere, printed(rt, &reason), &LogRefused(folder));
+        if let Err(refusal) = make_folder(rt, folder) {
+            return refused(rt, job, setup, &Failure::LogRefused(folder, refusal));
         }
     }
     let Ok(channel) = NoticeChannel::new(rt.alloc(), setup.proxies.len()) else {
-        return refused(
-            rt,
-            job,
-            RefusedAddress::none(),
-            None,
-            &ServeFault::OutOfMemory,
-        );
+        return refused(rt, job, setup, &Failure::Serve(ServeFault::OutOfMemory));
     };
     let ended = Stop::new();
     let notices = PrintedNotices::new(rt, &ended);
@@ -218,6 +217,7 @@ where
         send_warnings(rt, setup, &channel);
     }
     if job.options.verbose {
+        send_toxicities(rt, &setup.script, &channel);
         // A warning that can't be printed is no reason not to serve.
         let _ = print_warnings(rt, setup, job.options.form, shutdown);
     }
@@ -226,14 +226,7 @@ where
     };
     // What was sent before is told before the fault.
     let _ = tell_waiting(rt, rt.alloc(), &channel, &setup.proxies, &notices);
-    let refusal = RefusedAddress::of(setup, job, &fault);
-    let reason = if job.explaining.needs_inputs() {
-        let address = refusal.listen.or(refusal.ready);
-        address.and_then(|address| listen_reason(rt, address))
-    } else {
-        None
-    };
-    refused(rt, job, refusal, reason, &fault)
+    refused(rt, job, setup, &Failure::Serve(fault))
 }
 
 /// The seed that is given, or else one that is drawn and reported on standard error.
@@ -252,75 +245,20 @@ fn seed_of<R: AllocGlobal + Files + Wait + Clock>(
     seed
 }
 
-/// The address that can't be listened at, if that is the fault: a proxy's, or the one for probes.
-#[derive(Clone, Copy)]
-struct RefusedAddress<'a> {
-    listen: Option<&'a str>,
-    ready: Option<&'a str>,
-}
-
-impl<'a> RefusedAddress<'a> {
-    fn none() -> RefusedAddress<'a> {
-        RefusedAddress {
-            listen: None,
-            ready: None,
-        }
-    }
-
-    /// The address that a fault is about.
-    fn of(setup: &'a Setup, job: &'a ServeJob, fault: &ServeFault<'_>) -> RefusedAddress<'a> {
-        RefusedAddress {
-            listen: refused_proxy(setup, fault),
-            ready: refused_ready(job, fault),
-        }
-    }
-}
-
-/// The address of the proxy that can't be listened at, if that is the fault.
-fn refused_proxy<'a>(setup: &'a Setup, fault: &ServeFault<'_>) -> Option<&'a str> {
-    let ServeFault::ListenRefused(name) = fault else {
-        return None;
-    };
-    let proxy = find_proxy(&setup.proxies, name)?;
-    Some(proxy.listen.as_str())
-}
-
-/// The address for probes, if it can't be listened at.
-fn refused_ready<'a>(job: &'a ServeJob, fault: &ServeFault<'_>) -> Option<&'a str> {
-    match fault {
-        ServeFault::ReadyRefused => text_of(&job.ready),
-        _ => None,
-    }
-}
-
-/// Tells why nothing is served, with the reason that the system gives. Returns the status of the program.
-fn refused<R: Eprint + AllocGlobal, F: Display>(
+/// Tells why nothing is served. Returns the status of the program.
+fn refused<R: Eprint + AllocGlobal>(
     rt: &R,
     job: &ServeJob,
-    refusal: RefusedAddress<'_>,
-    reason: Option<String>,
-    fault: &F,
+    setup: &Setup,
+    failure: &Failure<'_>,
 ) -> u8 {
-    fail(rt, fault);
-    explain_refusal(rt, job.explaining, refusal, text_of(&reason), fault);
-    1
-}
-
-/// Explains why nothing is served.
-fn explain_refusal<'x, R: Eprint + AllocGlobal, F: Display>(
-    rt: &R,
-    explaining: Explaining,
-    refusal: RefusedAddress<'x>,
-    reason: Option<&'x str>,
-    fault: &F,
-) {
     let inputs = Inputs {
-        listen: refusal.listen,
-        ready: refusal.ready,
-        reason,
+        ready: text_of(&job.ready),
+        proxies: &setup.proxies,
         ..Inputs::none()
     };
-    explaining.explain(rt, fault, &inputs);
+    job.explaining.fail(rt, failure, &inputs);
+    1
 }
 
 /// Serves the proxies of the files.

@@ -1,6 +1,5 @@
 //! `toxi stages`: as `toxi dry`, with one thread for each applied toxic.
 use crate::explaining::Explaining;
-use crate::fault::Fault;
 use crate::kept_input::KeptInput;
 use crate::link::{link_status, read_link};
 use std::io;
@@ -8,6 +7,7 @@ use std::process::ExitCode;
 use std::sync::Wait;
 use std::thread::Threads;
 use tox_arguments::LinkArguments;
+use tox_explain::Failure;
 use tox_proxy::stages_run;
 use tox_time::{Cap, OpenGate, Real};
 
@@ -30,11 +30,11 @@ fn run<R: Input + Print + AllocGlobal + Threads + Wait + Sync>(
     cap: &Cap,
     link: &LinkArguments<'_>,
     input: &mut KeptInput,
-) -> Result<(), Fault> {
+) -> Result<(), Failure<'static>> {
     let link = read_link(rt.alloc(), link)?;
     let mut reader = Real::new(input.reader(rt.reader()));
     let mut writer = Real::new(io::writer(rt));
-    stages_run(
+    match stages_run(
         rt,
         rt.alloc(),
         &mut reader,
@@ -43,6 +43,8 @@ fn run<R: Input + Print + AllocGlobal + Threads + Wait + Sync>(
         &link.words,
         cap.items(),
         &OpenGate,
-    )
-    .map_err(Fault::Stages)
+    ) {
+        Ok(()) => Ok(()),
+        Err(fault) => Err(Failure::from(fault)),
+    }
 }

@@ -1,7 +1,8 @@
 //! `toxi wait`: until an address accepts a connection.
-use crate::explaining::{Explaining, fail_explained};
+use crate::explaining::Explaining;
 use std::process::ExitCode;
 use tox_arguments::WaitArguments;
+use tox_explain::{Failure, Inputs};
 use tox_proxy::{ServeRuntime, wait_until_ready};
 
 #[inline(never)]
@@ -12,6 +13,6 @@ pub fn wait<R: Eprint + AllocGlobal + ServeRuntime>(
 ) -> ExitCode {
     match wait_until_ready(rt, rt.alloc(), arguments.address, arguments.within) {
         Ok(()) => ExitCode::SUCCESS,
-        Err(fault) => fail_explained(rt, explaining, &fault),
+        Err(fault) => explaining.fail(rt, &Failure::Wait(fault), &Inputs::none()),
     }
 }

@@ -14,6 +14,7 @@ use std::sync::{Arc, Condvar, Mutex, Wait};
 use std::thread;
 use std::time::{Clock, Duration};
 use tox_arguments::{ServeArguments, ServeSource};
+use tox_explain::Failure;
 use tox_proxy::{InlineFault, ServeFault, ServeRuntime};
 
 /// How long the end of serving is waited for at a time, in milliseconds.
@@ -171,7 +172,7 @@ fn refused<R: Eprint + AllocGlobal>(
     fault: &InlineFault,
 ) -> ExitCode {
     match &arguments.source {
-        ServeSource::Inline(inline) => fail_inline(rt, explaining, inline, None, fault),
+        ServeSource::Inline(inline) => fail_inline(rt, explaining, inline, &Failure::from(*fault)),
         ServeSource::Files { .. } => fail(rt, fault),
     }
 }

@@ -1,7 +1,7 @@
 //! Probes: an address that listens once all proxies do, and a wait for it.
 use crate::comparing::assert_equal;
 use crate::serve::peers::{drain, send};
-use crate::serve::serving::{address_of, compare_behind, listening, setup_between};
+use crate::serve::serving::{ADDRESS_IN_USE, address_of, compare_behind, listening, setup_between};
 use std::net::{Net, TcpListener, TcpStream};
 use std::process::Abort;
 use std::sync::{Mutex, Wait};
@@ -132,7 +132,11 @@ fn a_taken_address_for_probes_is_refused(rt: HostRuntime) {
     let setup = setup_between(&rt, "127.0.0.1:0", NOBODY, "");
     let lines = Mutex::new(Vec::new(rt.alloc()));
     let answer = run(&rt, &setup, &address, None, &lines);
-    assert_equal(&rt, &answer, &Err(ServeFault::ReadyRefused));
+    assert_equal(
+        &rt,
+        &answer,
+        &Err(ServeFault::ReadyRefused(Some(ADDRESS_IN_USE))),
+    );
     assert_equal(&rt, &lines.into_inner().len(), &0);
 }
 

@@ -13,6 +13,9 @@ use tox_proxy::{
     NoLogs, NoNotices, NoticeChannel, ServeFault, ServeOptions, Setup, Stop, serve, serve_with,
 };
 
+/// The system's number for a port that is taken.
+pub const ADDRESS_IN_USE: i32 = 98;
+
 /// Three bytes pass downstream.
 const THREE_BYTES: &str = "\
 [[rule]]
@@ -232,6 +235,10 @@ fn a_taken_port_is_refused(rt: HostRuntime) {
         Some(1),
         &out,
     );
-    assert_equal(&rt, &answer, &Err(ServeFault::ListenRefused("a")));
+    assert_equal(
+        &rt,
+        &answer,
+        &Err(ServeFault::ListenRefused("a", Some(ADDRESS_IN_USE))),
+    );
     assert_equal(&rt, &out.into_inner().len(), &0);
 }

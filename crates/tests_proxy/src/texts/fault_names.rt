@@ -145,7 +145,7 @@ const RUNS: &[(Fault, &str)] = &[
         "L4 WriteFault",
     ),
     (
-        Fault::Serve(ServeFault::ReadyRefused),
+        Fault::Serve(ServeFault::ReadyRefused(None)),
         "P4 ListenRefused --ready",
     ),
     (Fault::Wait(WaitFault::OutOfMemory), "L0 OutOfMemory"),
@@ -176,7 +176,7 @@ const LINES: &[(Fault, &str)] = &[
         "P3 UnknownProxy \\x9b\\u202e\u{202f}",
     ),
     (
-        Fault::Serve(ServeFault::ListenRefused("the\nshop")),
+        Fault::Serve(ServeFault::ListenRefused("the\nshop", None)),
         "P4 ListenRefused the\\x0ashop",
     ),
     (

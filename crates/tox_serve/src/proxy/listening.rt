@@ -63,11 +63,16 @@ fn listen<'a, R: Net<Listener = TcpListener, Stream = TcpStream> + Wait>(
 {
     let LiveListener { listener, key } = match LiveListener::bind(rt, alloc, live, &proxy.listen) {
         Ok(bound) => bound,
-        Err(BindFault::Refused) => return Err(ServeFault::ListenRefused(&proxy.name)),
+        Err(BindFault::Refused(errno)) => {
+            return Err(ServeFault::ListenRefused(&proxy.name, errno));
+        }
         Err(BindFault::OutOfMemory) => return Err(ServeFault::OutOfMemory),
     };
-    let Ok(bound) = listener.local_addr() else {
-        return Err(ServeFault::ListenRefused(&proxy.name));
+    let bound = match listener.local_addr() {
+        Ok(bound) => bound,
+        Err(error) => {
+            return Err(ServeFault::ListenRefused(&proxy.name, error.raw_os_error()));
+        }
     };
     let Ok(address) = format!(in alloc; "{bound}") else {
         return Err(ServeFault::OutOfMemory);
