@@ -7,7 +7,11 @@ from typing import Any, Dict, List, Tuple
 
 @dataclass(frozen=True)
 class Argument:
-    """An argument of a command, or of the program. `value` is empty where it takes none, and `values` where any may stand."""
+    """An argument of a command, or of the program. `value` is empty where it takes none, and `values` where any may stand.
+
+    `help` is its whole line: `words`, the range of its numbers, what holds without it, and its variable of the environment. Each of these three is empty
+    where there is none. `unit` is what a number counts. What isn't required may have to be there `unless` one of these is.
+    """
 
     command: str
     name: str
@@ -16,8 +20,14 @@ class Argument:
     value: str
     kind: str
     values: List[str]
+    words: str
     help: str
+    range: str
+    unit: str
+    default: str
+    environment: str
     required: bool
+    unless: List[str]
     repeatable: bool
     shared: bool
 
@@ -40,10 +50,26 @@ class Command:
 
 @dataclass(frozen=True)
 class Toxic:
-    """A type of toxics, and the keys of its short form."""
+    """A type of toxics, what it does in a line, and the keys of its short form."""
 
     name: str
+    words: str
     keys: List[str]
+
+
+@dataclass(frozen=True)
+class Attribute:
+    """An attribute of a type of toxics. Its `default` holds unless it is required."""
+
+    toxic: str
+    name: str
+    unit: str
+    placeholder: str
+    least: int
+    most: int
+    required: bool
+    default: int
+    words: str
 
 
 @dataclass(frozen=True)
@@ -57,10 +83,13 @@ class Topic:
 
 @dataclass(frozen=True)
 class Fault:
-    """A fault. Its line has the code, the name, what stands behind them, and what it means."""
+    """A fault: its code and name, what stands behind them, what it means and what to do. Its line has all of these."""
 
     code: str
     name: str
+    subject: str
+    means: str
+    advice: str
     line: str
 
 
@@ -75,6 +104,7 @@ class Table:
     options: List[Argument]
     commands: List[Command]
     toxics: List[Toxic]
+    attributes: List[Attribute]
     topics: List[Topic]
     faults: List[Fault]
 
@@ -119,6 +149,7 @@ def _read(rows: Rows) -> Table:
         options=options,
         commands=commands,
         toxics=[Toxic(**row) for row in rows["toxic"]],
+        attributes=[Attribute(**row) for row in rows["attribute"]],
         topics=[Topic(**row) for row in rows["topic"]],
         faults=[Fault(**row) for row in rows["fault"]],
     )

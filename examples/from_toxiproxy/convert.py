@@ -6,6 +6,7 @@ from typing import Any, Dict, List, Optional, Tuple, Type
 from toxi import Bandwidth, Latency, LimitData, Proxy, ResetPeer, Rule, Slicer, SlowClose, Timeout, Toxic
 from toxi.lines import printed
 from toxi.rules import toml_value
+from toxi.toxics import MAX_MS
 
 from .setups import AGE, Entry, Setup
 
@@ -13,7 +14,6 @@ KINDS: Tuple[Type[Toxic], ...] = (Bandwidth, Latency, LimitData, ResetPeer, Slic
 TYPES = {kind.type: kind for kind in KINDS}
 # A whole toxicity, in thousandths.
 WHOLE = 1000
-MAX_MILLIS = 3_600_000
 
 
 def converted(setup: Setup) -> Tuple[List[Proxy], List[Rule]]:
@@ -38,7 +38,7 @@ def comments(setup: Setup) -> List[str]:
     for name, entry in setup.proxies.items():
         for number, toxic in enumerate(entry["toxics"], 1):
             kind, millis = TYPES.get(str(toxic.get("type"))), toxic.get(AGE, 0)
-            if hasattr(kind, "from_") and 0 < millis <= MAX_MILLIS:
+            if hasattr(kind, "from_") and 0 < millis <= MAX_MS:
                 age = f"{millis / 1000:g} s"
                 added = f"# Proxy {toml_value(name)}, toxic {number}: added to the running proxy, after {age}."
                 lines.append(f"{added} With from = {millis} it begins when a link is {age} old.")

@@ -3,10 +3,8 @@ import math
 from dataclasses import dataclass, replace
 from typing import Iterable, List
 
-from .toxics import Bandwidth, Latency, ResetPeer, Slicer, SlowClose, Timeout, Toxic
+from .toxics import MAX_MS, Bandwidth, Latency, ResetPeer, Slicer, SlowClose, Timeout, Toxic
 
-# The longest time that a toxic takes, in milliseconds.
-MAX_MS = 3_600_000
 # A latency is met by each message and its answer. So many of them are reckoned with on a connection, and so many pieces that a slicer gets besides
 # those that it makes of whole chunks.
 TURNS = 4

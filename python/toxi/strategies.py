@@ -3,7 +3,7 @@
     @given(rules=strategies.rules(["shop"], within=5.0), seed=strategies.seeds())
     def test_any_fault(toxi_session, rules, seed): ...
 
-They need Hypothesis: `pip install toxi[find]`. What they draw is accepted by `toxi serve`, and shrinks toward no rule, connection 1, few toxics,
+They need Hypothesis: `pip install hypothesis`. What they draw is accepted by `toxi serve`, and shrinks toward no rule, connection 1, few toxics,
 small numbers and downstream.
 """
 from dataclasses import replace
@@ -17,14 +17,14 @@ try:
 except ModuleNotFoundError as missing:
     if missing.name != "hypothesis":
         raise
-    raise ModuleNotFoundError("Hypothesis isn't installed: pip install 'toxi[find]', or Debian's python3-hypothesis", name="hypothesis") from None
+    raise ModuleNotFoundError("Hypothesis isn't installed: pip install hypothesis, or Debian's python3-hypothesis", name="hypothesis") from None
 
 from .base import STREAMS
-from .delays import MAX_MS, Delays
+from .delays import Delays
 from .outcomes import WITHIN
 from .rules import Rule
 from .smallness import KINDS
-from .toxics import Bandwidth, Latency, LimitData, ResetPeer, Slicer, SlowClose, Timeout, Toxic
+from .toxics import MAX_MS, Bandwidth, Latency, LimitData, ResetPeer, Slicer, SlowClose, Timeout, Toxic
 
 # The conversation whose delays are kept below half of the limit, in bytes.
 CONVERSATION = 1024

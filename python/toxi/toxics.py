@@ -1,72 +1,26 @@
 """The toxics of a rule, as dataclasses. All fields are given by keyword.
 
-Units and ranges are those of docs/TOXICS.md. The program checks them when it reads the script, so a wrong one raises a
-`ToxiFault` at the start.
+The program checks the values when it reads the script, so a wrong one raises a `ToxiFault` at the start. This file is made by
+tests/tables of the program's own table.
 """
-from dataclasses import dataclass, fields
-from typing import Any, ClassVar, Dict, Optional, Union
+from dataclasses import dataclass
 
-from .reprs import repr_without_defaults
-from .thousandths import warn_of_percent
+from ._toxic import Toxic, Toxicity
 
-Toxicity = Union[int, float, str]
-# Attributes that stand in a script only where they aren't 0.
-OMITTED_AT_ZERO = ("until", "from", "after")
-TOXICITY_OF_ONE = (
-    "toxicity=1 has two meanings: write toxicity=1.0, or leave it out, for every link, and toxicity=0.001 for one link in a thousand"
-)
+__all__ = ["Bandwidth", "Latency", "LimitData", "ResetPeer", "Slicer", "SlowClose", "Timeout", "Toxic", "Toxicity"]
 
-
-@dataclass(frozen=True, repr=False)
-class Toxic:
-    """What every toxic has.
-
-    `name` is `<type>_<stream>` if absent. `stream` is `upstream` or `downstream`. `toxicity` is the chance that a link
-    meets the toxic: a float of 0.0 to 1.0 in thousandths such as `0.25`, the same as a text, or whole thousandths, 0 to 1000;
-    absent, every link meets it. The whole number 1 is refused by a ValueError, since it reads as both 1.0 and 0.001, and one of 2 to 100
-    is a `ToxiWarning`, since it reads as percent too: `thousandths(30)` says what is meant.
-
-    Raises `TypeError` for a value without its name, and for a name that the toxic doesn't have.
-    """
-
-    type: ClassVar[str]
-
-    name: Optional[str] = None
-    stream: str = "downstream"
-    toxicity: Optional[Toxicity] = None
-
-    # Dataclasses have keyword-only fields from Python 3.10 on.
-    def __new__(cls, *values: Any, **named: Any) -> "Toxic":
-        if values:
-            raise TypeError(f"give the attributes of {cls.__name__} by keyword: {', '.join(map(repr, values))} has no name")
-        known = [field.name for field in fields(cls)]
-        for name in named:
-            if name not in known:
-                raise TypeError(f"{cls.__name__} has no {name!r}; it has {', '.join(known)}")
-        return super().__new__(cls)
-
-    def __post_init__(self) -> None:
-        if type(self.toxicity) is int and self.toxicity == 1:
-            raise ValueError(TOXICITY_OF_ONE)
-        # The call that makes a toxic stands two levels above: its __init__ calls this.
-        warn_of_percent(self.toxicity, stacklevel=3)
-
-    def __repr__(self) -> str:
-        return repr_without_defaults(self)
-
-    def attributes(self) -> Dict[str, int]:
-        """The attributes by their keys in a script, without those that all toxics have. An `until`, `from` or `after` of 0 is left out."""
-        common = {field.name for field in fields(Toxic)}
-        # `from` is a word of Python, so its field is `from_`.
-        values = {field.name.rstrip("_"): getattr(self, field.name) for field in fields(self) if field.name not in common}
-        return {key: value for key, value in values.items() if not (key in OMITTED_AT_ZERO and type(value) is int and value == 0)}
+# The longest time that a toxic takes, in milliseconds.
+MAX_MS = 3_600_000
 
 
 @dataclass(frozen=True, repr=False)
 class Latency(Toxic):
-    """Delays data by `latency` plus or minus `jitter` milliseconds (0 to 3,600,000).
+    """Delays all data by latency plus or minus jitter.
 
-    It works from `from_` milliseconds after the link's start (0: from the start) until `until` (0: without end), each 0 to 3,600,000.
+    `latency`: how much later data leaves. In milliseconds, 0 to 3,600,000.
+    `jitter`: each piece leaves up to so much earlier or later than that. In milliseconds, 0 to 3,600,000.
+    `until`: stops at that time, and from then on all passes; 0: never. In milliseconds, 0 to 3,600,000.
+    `from_`: begins at that time, and until then all passes; 0: at once. In milliseconds, 0 to 3,600,000.
     """
 
     type = "latency"
@@ -78,9 +32,11 @@ class Latency(Toxic):
 
 @dataclass(frozen=True, repr=False)
 class Bandwidth(Toxic):
-    """Passes `rate` kilobytes (of 1000 bytes; 1 to 1,000,000) a second.
+    """Passes so many kilobytes (of 1000 bytes) a second.
 
-    It works from `from_` milliseconds after the link's start (0: from the start) until `until` (0: without end), each 0 to 3,600,000.
+    `rate`: how many pass each second. In kilobytes (of 1000 bytes) a second, 1 to 1,000,000; it has to be given.
+    `until`: stops at that time, and from then on all passes; 0: never. In milliseconds, 0 to 3,600,000.
+    `from_`: begins at that time, and until then all passes; 0: at once. In milliseconds, 0 to 3,600,000.
     """
 
     type = "bandwidth"
@@ -91,7 +47,10 @@ class Bandwidth(Toxic):
 
 @dataclass(frozen=True, repr=False)
 class SlowClose(Toxic):
-    """Delays the closing by `delay` milliseconds."""
+    """Delays the closing.
+
+    `delay`: how much later the link closes. In milliseconds, 0 to 3,600,000.
+    """
 
     type = "slow_close"
     delay: int = 0
@@ -99,10 +58,11 @@ class SlowClose(Toxic):
 
 @dataclass(frozen=True, repr=False)
 class Timeout(Toxic):
-    """Drops all data, and closes `timeout` milliseconds (0 to 3,600,000) after the link's start. With 0 it never closes.
+    """Drops all data, and closes after a time.
 
-    With `from_` or `after` it begins later, and everything passes until then: `from_` milliseconds after the link's start (0 to 3,600,000),
-    or behind the first `after` bytes (0 to 2^40), whichever comes first. 0 is as absent. Where `timeout` has passed by then, it closes at once.
+    `timeout`: when the link closes; 0: never. In milliseconds, 0 to 3,600,000.
+    `from_`: begins at that time, and until then all passes; 0: at once. In milliseconds, 0 to 3,600,000.
+    `after`: begins behind so many bytes, if that is sooner; 0: not for their sake. In bytes, 0 to 1,099,511,627,776.
     """
 
     type = "timeout"
@@ -113,9 +73,10 @@ class Timeout(Toxic):
 
 @dataclass(frozen=True, repr=False)
 class ResetPeer(Toxic):
-    """Resets the link `timeout` milliseconds (0 to 3,600,000) after its start if it still lives.
+    """Resets the connection after a time.
 
-    With `after` above 0 (up to 2^40) it resets behind the first `after` bytes, and not before `timeout`.
+    `timeout`: when the connection is reset. In milliseconds, 0 to 3,600,000.
+    `after`: resets behind so many bytes, and not before that time; 0: at that time. In bytes, 0 to 1,099,511,627,776.
     """
 
     type = "reset_peer"
@@ -125,9 +86,13 @@ class ResetPeer(Toxic):
 
 @dataclass(frozen=True, repr=False)
 class Slicer(Toxic):
-    """Cuts data into pieces of `average_size` plus or minus `size_variation` bytes, `delay` microseconds (0 to 3,600,000,000) apart.
+    """Cuts data into pieces, with a wait before each.
 
-    It works from `from_` milliseconds after the link's start (0: from the start) until `until` (0: without end), each 0 to 3,600,000.
+    `average_size`: the size of a piece. In bytes, 1 to 1,000,000; it has to be given.
+    `size_variation`: a piece has up to so many bytes more or fewer; below average_size. In bytes.
+    `delay`: the wait before each piece. In microseconds, 0 to 3,600,000,000.
+    `until`: stops at that time, and from then on all passes; 0: never. In milliseconds, 0 to 3,600,000.
+    `from_`: begins at that time, and until then all passes; 0: at once. In milliseconds, 0 to 3,600,000.
     """
 
     type = "slicer"
@@ -140,7 +105,10 @@ class Slicer(Toxic):
 
 @dataclass(frozen=True, repr=False)
 class LimitData(Toxic):
-    """Closes the link with the last of exactly `bytes` bytes. It counts no time."""
+    """Closes the connection after so many bytes.
+
+    `bytes`: how many pass before it closes. In bytes, 0 to 1,099,511,627,776.
+    """
 
     type = "limit_data"
     bytes: int = 0

@@ -105,9 +105,9 @@ class StrategiesTests(unittest.TestCase):
 
 
 class MissingTests(unittest.TestCase):
-    def test_without_hypothesis_the_error_names_the_extra(self):
+    def test_without_hypothesis_the_error_names_it(self):
         with mock.patch.dict(sys.modules, {"hypothesis": None}):
             sys.modules.pop("toxi.strategies")
             del toxi.strategies
-            with self.assertRaisesRegex(ModuleNotFoundError, r"pip install 'toxi\[find\]'"):
+            with self.assertRaisesRegex(ModuleNotFoundError, r"pip install hypothesis"):
                 toxi.find_fault({"shop": "127.0.0.1:1"}, lambda addresses: None)
