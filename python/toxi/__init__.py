@@ -5,9 +5,10 @@
 
 The manual of toxics and faults is docs/PROFILE.md, that of rules docs/SCRIPTS.md.
 """
-__version__ = "0.7.0"
+__version__ = "0.8.0"
 
 from ._search.client_run import ClientRun, RunLink
+from ._search.memory import Remembered
 from ._search.result import Flaky, SearchResult, Tried
 from ._search.search import Search
 from ._search.searching import Progress
@@ -42,6 +43,7 @@ __all__ = [
     "PickedToxic",
     "Progress",
     "Proxy",
+    "Remembered",
     "ResetPeer",
     "Rule",
     "RunLink",

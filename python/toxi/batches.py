@@ -17,7 +17,7 @@ from ._search.serving import BatchToxi, remove_all
 from .conversations import StreamBytes, streams_of
 from .fault_points import FaultPoint
 from .lines import Address, Link
-from .outcomes import Addresses, StartedRun, Client, Outcome, Startable, run_client
+from .outcomes import Addresses, StartedRun, Client, Outcome, Startable, Verdict, run_client
 from .ports import refusing
 
 # A populate file has at most so many proxies.
@@ -47,14 +47,14 @@ class ClientSetup:
 
 @dataclass
 class BatchRun:
-    """A run of a batch: its case, its outcome once it has ended, its links, and what their streams carried if logs are read. One that is `dropped` wasn't
-    wanted any more."""
+    """A run of a batch: its case, its outcome once it has ended, the verdict once that is judged, its links, and what their streams carried if logs are
+    read."""
 
     case: Case
     outcome: Optional[Outcome] = None
+    verdict: Optional[Verdict] = None
     links: List[Link] = field(default_factory=list)
     streams: List[StreamBytes] = field(default_factory=list)
-    dropped: bool = False
 
     def stream_of(self, point: FaultPoint) -> Optional[StreamBytes]:
         """The stream of a point. None where the client made no such connection."""
@@ -77,25 +77,26 @@ class _Noted(Startable):
 class Batch:
     """Some runs of a client behind one `serve`. Once one hangs, no other begins, and those that never began have no outcome.
 
-    `ended` is called with each run that has its outcome, by the thread that ran it: a false value means that no other is to begin. A case that isn't `wanted`
-    when its turn comes isn't run. With `reads_logs` each run has its streams.
+    `ended` is called with each run that has its outcome, by the thread that ran it: a false value means that no other is to begin. A run that isn't `wanted`
+    when it would begin isn't run. With `reads_logs` each run has its streams.
     """
 
     def __init__(
         self,
         setup: ClientSetup,
-        cases: Sequence[Case],
+        runs: Sequence[BatchRun],
         ended: Callable[[BatchRun], object] = lambda run: True,
-        wanted: Callable[[Case], bool] = lambda case: True,
+        wanted: Callable[[BatchRun], bool] = lambda run: True,
         reads_logs: bool = True,
     ) -> None:
-        self.runs = [BatchRun(case) for case in cases]
+        # Another batch may have lost them, when they had links already.
+        self.runs = [_begun_anew(run) for run in runs]
         self._setup = setup
         self._ended, self._wanted = ended, wanted
         self._reads_logs = reads_logs
-        self._keeps_logs = reads_logs or setup.keeps_logs or any(case.delays for case in cases)
+        self._keeps_logs = reads_logs or setup.keeps_logs or any(run.case.delays for run in runs)
         self._client = setup.client if isinstance(setup.client, Startable) else FunctionClient(setup.client, setup.shares_threads)
-        self._waiting: Deque[int] = deque(range(len(cases)))
+        self._waiting: Deque[int] = deque(range(len(runs)))
         self._running: Set[int] = set()
         self._started: Dict[int, StartedRun] = {}
         self._changed = threading.Condition()
@@ -122,7 +123,8 @@ class Batch:
                 if isinstance(self._client, FunctionClient):
                     self._client.close()
                 self._note_links()
-                remove_all(self._toxi.logs())
+                if self._toxi.runs:
+                    remove_all(self._toxi.logs())
 
     def _proxy(self, name: str, number: int) -> str:
         return f"{self._places[name]}-{number}"
@@ -162,8 +164,7 @@ class Batch:
     def _run_one(self, number: int) -> None:
         __tracebackhide__ = True
         run = self.runs[number]
-        if not self._wanted(run.case):
-            run.dropped = True
+        if not self._wanted(run):
             return
         # Another thread ends a run only where there is one.
         client = self._client if self._setup.jobs == 1 else _Noted(self._client, partial(self._started.__setitem__, number))
@@ -229,6 +230,11 @@ class Batch:
         for stream in streams_of(links, self._toxi.logs()) if self._reads_logs else ():
             place, _, number = stream.proxy.partition("-")
             self.runs[int(number)].streams.append(stream.of_proxy(names[int(place)]))
+
+
+def _begun_anew(run: BatchRun) -> BatchRun:
+    run.links, run.streams = [], []
+    return run
 
 
 def _populated(upstreams: Mapping[str, str]) -> str:

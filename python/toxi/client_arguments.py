@@ -28,7 +28,7 @@ def client_parser(name: str, about: str, faults: Sequence[str], budget: Optional
         dest="upstreams",
         action="append",
         required=True,
-        type=_named_upstream,
+        type=named_upstream,
         help="a service that the command uses; it finds the address of the proxy before it in TOXI_NAME. Repeatable",
     )
     parser.add_argument("--within", metavar="S", type=seconds, default=WITHIN, help="a command that runs longer hangs, in seconds (default: %(default)s)")
@@ -108,7 +108,8 @@ def positive(text: str) -> int:
     return value
 
 
-def _named_upstream(text: str) -> Tuple[str, str]:
+def named_upstream(text: str) -> Tuple[str, str]:
+    """The name and the address of `NAME=HOST:PORT`."""
     name, mark, upstream = text.partition("=")
     if not (name and mark and upstream):
         raise argparse.ArgumentTypeError(f"{text!r} isn't NAME=HOST:PORT")

@@ -1,4 +1,5 @@
 """How a file of its own runs a client again: the text of `test_found.py`."""
+import os
 from abc import ABC, abstractmethod
 from dataclasses import dataclass
 from typing import Any, Callable, Dict, List, Optional, Sequence, Tuple, Type
@@ -9,19 +10,16 @@ from .sources import Source, place_of_source, source_of
 HEAD = '''"""{about}"""
 import sys
 from pathlib import Path
+from typing import Mapping
 '''
 TEST = '''
 
-def test_found() -> None:
+def test_found(toxi_upstreams: Mapping[str, str]) -> None:
     {call}
 
 
 if __name__ == "__main__":
-    try:
-        test_found()
-    except (AssertionError, ToxiError) as wrong:
-        sys.exit(str(wrong))
-    print("right in {times} of {times} runs under script.toml")
+    sys.exit(run_again(test_found, Path(__file__).parent, {times}))
 '''
 MISSING = '''
 
@@ -32,6 +30,11 @@ def {name}(*values):
 
 class ClientSource(ABC):
     """What a client was made of."""
+
+    @property
+    def folders(self) -> List[str]:
+        """The folders from which a test of it imports, but for those of every interpreter."""
+        return []
 
     @abstractmethod
     def test_text(self, about: str, within: float, times: int) -> str:
@@ -50,9 +53,9 @@ class CommandSource(ClientSource):
     def test_text(self, about: str, within: float, times: int) -> str:
         """As a test of the command."""
         given = "".join(f"{name}={text!r}, " for name, text in (("before", self.before), ("check", self.check)) if text is not None)
-        options = f"allowed_statuses={list(self.allowed_statuses)!r}, {given}within={within!r}, times={times}"
+        options = f"allowed_statuses={list(self.allowed_statuses)!r}, {given}within={within!r}, times={times}, upstreams=toxi_upstreams"
         call = f"rerun_command(Path(__file__).parent, {list(self.command)!r}, {options})"
-        return f"{HEAD.format(about=about)}\nfrom toxi import ToxiError, rerun_command\n{TEST.format(call=call, times=times)}"
+        return f"{HEAD.format(about=about)}\nfrom toxi import rerun_command\nfrom toxi.again import run_again\n{TEST.format(call=call, times=times)}"
 
 
 @dataclass(frozen=True)
@@ -65,15 +68,36 @@ class FunctionSource(ClientSource):
     before: Optional[Callable[[], object]]
     eventually: Optional[Eventually] = None
 
+    @property
+    def folders(self) -> List[str]:
+        """Those of its functions and of the classes of `allowed`."""
+        return list(dict.fromkeys(str(source.folder) for source in self._sources.values() if source is not None and source.folder is not None))
+
+    @property
+    def _functions(self) -> Dict[str, Any]:
+        functions: Dict[str, Any] = {"client": self.client, "check": self.check, "before": self.before, "eventually": self.eventually}
+        return {name: value for name, value in functions.items() if value is not None}
+
+    @property
+    def _classes(self) -> Dict[str, Type[BaseException]]:
+        return _named(self.allowed if isinstance(self.allowed, tuple) else (self.allowed,))
+
+    @property
+    def _values(self) -> Dict[str, Any]:
+        """What the test imports."""
+        foreign = {name: kind for name, kind in self._classes.items() if (kind.__module__, kind.__name__) != ("builtins", name)}
+        return {**self._functions, **foreign}
+
+    @property
+    def _sources(self) -> Dict[str, Optional[Source]]:
+        return {name: source_of(value) for name, value in self._values.items()}
+
     def test_text(self, about: str, within: float, times: int) -> str:
         """As a test that imports them. One that no module has, such as a local function, is to be put in by hand."""
-        functions: Dict[str, Any] = {"client": self.client, "check": self.check, "before": self.before, "eventually": self.eventually}
-        given = {name: value for name, value in functions.items() if value is not None}
-        classes = _named(self.allowed if isinstance(self.allowed, tuple) else (self.allowed,))
-        values = {**given, **{name: kind for name, kind in classes.items() if (kind.__module__, kind.__name__) != ("builtins", name)}}
-        sources = {name: source_of(value) for name, value in values.items()}
+        values, sources, classes = self._values, self._sources, self._classes
         allowed = ", ".join(classes) + ("," if len(classes) == 1 else "")
-        options = [f"{name}={name}" for name in given if name != "client"] + [f"allowed=({allowed})", f"within={within!r}", f"times={times}"]
+        given = [f"{name}={name}" for name in self._functions if name != "client"]
+        options = [*given, f"allowed=({allowed})", f"within={within!r}", f"times={times}", "upstreams=toxi_upstreams"]
         call = f"rerun(Path(__file__).parent, client, {', '.join(options)})"
         missing = [MISSING.format(name=name, told=_to_put_in(name, values[name])) for name, source in sources.items() if source is None]
         return "".join([HEAD.format(about=about), *_imports(sources), *missing, TEST.format(call=call, times=times)])
@@ -88,12 +112,11 @@ def _named(classes: Sequence[Type[BaseException]]) -> Dict[str, Type[BaseExcepti
 
 
 def _to_put_in(name: str, value: Any) -> str:
-    return f"put the {name} in here: no module has it by a name, at {place_of_source(value)}"
+    place = place_of_source(value)
+    return f"put the {name} in here: no module has it by a name, at {os.path.relpath(place) if os.path.isabs(place) else place}"
 
 
 def _imports(sources: Dict[str, Optional[Source]]) -> List[str]:
     named: List[Tuple[str, Source]] = [(name, source) for name, source in sources.items() if source is not None]
-    folders = list(dict.fromkeys(str(source.folder) for _, source in named if source.folder is not None))
-    paths = [f"\nsys.path[:0] = {folders!r}\n"] if folders else []
     imports = [f"from {source.module} import {source.name}" + ("" if source.name == name else f" as {name}") + "\n" for name, source in named]
-    return [*paths, "\nfrom toxi import ToxiError, rerun\n", *imports]
+    return ["\nfrom toxi import rerun\nfrom toxi.again import run_again\n", *imports]

@@ -7,6 +7,7 @@ from typing import List, Optional
 
 from ._search.drawing import DrawnFaults
 from ._search.engine import Engine
+from ._search.memory import Memory
 from ._search.result import SearchResult
 from ._search.search import LIMITS, numbered
 from ._search.searching import SearchLimits
@@ -50,6 +51,8 @@ def main(words: Optional[List[str]] = None) -> int:
     if not result.found:
         return _told(_nothing_found(result, arguments), NOTHING, line)
     line.end()
+    for each in result.remembered:
+        print(each)
     print("\n\n".join(map(str, result.found)))
     return FOUND
 
@@ -59,6 +62,8 @@ def _parser() -> argparse.ArgumentParser:
     parser.add_argument("--runs", metavar="N", type=positive, default=LIMITS.runs, help="how many faults are drawn behind the others (default: %(default)s)")
     parser.add_argument("--stream", choices=STREAMS, help="faults of this stream alone")
     parser.add_argument("--kind", dest="kinds", action="append", choices=KINDS, help="toxics of this type alone. Repeatable")
+    parser.add_argument("--remember", metavar="DIR", type=Path, help="write each fault into DIR too, and run first what --name has there")
+    parser.add_argument("--name", metavar="NAME", help="the client's name in DIR")
     parser.add_argument("--trickle", action="store_true", help="draws streams that are slower than --within allows, too")
     return parser
 
@@ -76,6 +81,7 @@ def _search(arguments: argparse.Namespace, command: List[str], line: ProgressLin
         SearchLimits(arguments.runs, arguments.budget, arguments.max_found),
         partial(_folder, arguments.folder),
         line,
+        Memory.of(arguments.remember, arguments.name, arguments.upstreams),
     ).run()
 
 
@@ -86,7 +92,8 @@ def _nothing_found(result: SearchResult, arguments: argparse.Namespace) -> str:
         told = f"nothing found by {result.runs} runs: the budget of {arguments.budget:g} s was used up; phases done: {', '.join(result.phases) or 'none'}"
     if result.ended_by == "client_stuck":
         told += ": commands didn't return"
-    return told + "".join(f": {each.kind} came, but in no repetition" for each in result.flaky[:1])
+    told += "".join(f": {each.kind} came, but in no repetition" for each in result.flaky[:1])
+    return "\n".join([*map(str, result.remembered), told])
 
 
 def _folder(given: Optional[Path], number: int) -> Optional[Path]:

@@ -38,7 +38,7 @@ class Found:
     line of a command's standard error. `hint` is the class of a library's exception, which `allowed` may name. `refused` are the proxies that refused
     connects. `folder` has
     `proxies.json`, `script.toml`, `seed`, `logs`, `report.html`, and `again.sh` and `test_found.py`, which run it again. `runs` and `seconds` are those
-    of the search until then.
+    of the search until then. `remembered` is its file where the search remembers what it finds.
     """
 
     script: str
@@ -54,6 +54,7 @@ class Found:
     where: str = ""
     hint: Optional[str] = None
     refused: Tuple[str, ...] = ()
+    remembered: Optional[Path] = None
 
     @property
     def command(self) -> str:
@@ -75,7 +76,8 @@ class Found:
         place = f"at {self.where}" if self.where else ""
         allowed = f"If it may fail so: allowed=(.., {self.hint})" if self.hint else ""
         refused = "".join(f"{name} refuses connects\n" for name in self.refused)
-        return "\n".join([head, *filter(None, [self.detail, place, allowed]), "", refused + self.script, *map(str, self.connections), self.command])
+        file = [] if self.remembered is None else [f"remembered in {self.remembered}"]
+        return "\n".join([head, *filter(None, [self.detail, place, allowed]), "", refused + self.script, *map(str, self.connections), *file, self.command])
 
     def __repr__(self) -> str:
         return f"<Found: {self.kind} {self.times}; {self.command}>"
@@ -97,6 +99,6 @@ def detail_of(outcome: Outcome, verdict: Verdict, right: Any = None) -> str:
     if outcome.error is not None:
         error = outcome.error
         return "".join(traceback.format_exception(type(error), error, error.__traceback__)).rstrip("\n")
-    if isinstance(outcome.answer, Status) and verdict is not WRONG:
+    if isinstance(outcome.answer, Status) and verdict != WRONG:
         return ""
     return why_wrong(outcome, verdict) or f"answer {SHOWN.repr(outcome.answer)}\nright  {SHOWN.repr(right)}"

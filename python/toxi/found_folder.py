@@ -23,8 +23,8 @@ from .served import page_of
 from ._search.kept_runs import KeptRun, KeptRuns
 
 AGAIN = """#!/bin/sh
-# Runs the client again under script.toml and seed {seed}, and fails until it is mended.
-folder="$(cd "$(dirname "$0")" && pwd)" && cd {directory} && TOXI={program} PYTHONPATH={package}${{PYTHONPATH:+:$PYTHONPATH}} exec {python} "$folder/test_found.py"
+# Runs the client again under script.toml and seed {seed}, and fails until it is mended. Usage: sh again.sh [NAME=HOST:PORT ..], where services are now.
+folder="$(cd "$(dirname "$0")" && pwd)" && cd {directory} && TOXI={program} PYTHONPATH={path}${{PYTHONPATH:+:$PYTHONPATH}} exec {python} "$folder/test_found.py" "$@"
 """
 # A test of a fault that comes now and then misses it less often than this.
 MISSED = 0.001
@@ -102,8 +102,8 @@ class FoundFolder:
         about = f"{found.kind} {found.times} under script.toml. This fails until the client is mended."
         times = _times(found.failed, found.repeated)
         program = found_program() if self.kept_runs.program is None else os.fspath(self.kept_runs.program)
-        paths = (("directory", "."), ("program", program), ("package", str(Path(__file__).parent.parent)))
-        quoted = {name: shlex.quote(os.path.abspath(path)) for name, path in paths}
+        path = os.pathsep.join([str(Path(__file__).absolute().parent.parent), *self.source.folders])
+        quoted = {"directory": shlex.quote(os.getcwd()), "program": shlex.quote(os.path.abspath(program)), "path": shlex.quote(path)}
         files = {
             "seed": f"{found.seed}\n",
             "test_found.py": self.source.test_text(about, self.kept_runs.within, times),

@@ -7,12 +7,13 @@
 import random
 import time
 from pathlib import Path
-from typing import Any, Dict, Generator, Iterator, List, Optional
+from typing import Any, Dict, Generator, Iterator, List, Mapping, Optional
 
 import pytest
 
 from .artifacts import attempt_folder
 from .factory import Begun, ToxiFactory
+from .fixture_factory import RememberingFactory
 from .pytest_report import Fixture, Section
 from .pytest_settings import add_settings, settings_of
 
@@ -20,6 +21,8 @@ from .pytest_settings import add_settings, settings_of
 DRAWN_BITS = 32
 # The line of a link comes milliseconds after its end, and the end of its log within 0.1 s. In seconds.
 SETTLE = 0.2
+# The name of what a session's fixture searches before its first test.
+FIXTURE_OF_SESSION = "session"
 FIXTURE = pytest.StashKey[Fixture]()
 BEGUN = pytest.StashKey[Dict[ToxiFactory, Begun]]()
 KEPT = pytest.StashKey[Path]()
@@ -48,10 +51,19 @@ def toxi_session(request: pytest.FixtureRequest, tmp_path_factory: pytest.TempPa
     yield from _factory(request, tmp_path_factory.mktemp("toxi_session"))
 
 
+@pytest.fixture
+def toxi_upstreams() -> Mapping[str, str]:
+    """The upstreams of a `test_found.py`, by the names of its proxies: those of the `proxies.json` beside it, unless a suite's own fixture gives others."""
+    return {}
+
+
 def _factory(request: pytest.FixtureRequest, folder: Path) -> Iterator[ToxiFactory]:
     settings = settings_of(request.config)
     seed = random.SystemRandom().getrandbits(DRAWN_BITS) if settings.seed is None else settings.seed
-    factory = ToxiFactory(seed, folder, settings.program, settings.workers, request.config.rootpath)
+    kind = ToxiFactory if settings.faults is None else RememberingFactory
+    factory = kind(seed, folder, settings.program, settings.workers, request.config.rootpath)
+    if isinstance(factory, RememberingFactory) and settings.faults is not None:
+        factory.faults, factory.test_id = settings.faults, request.node.nodeid or FIXTURE_OF_SESSION
     name = request.fixturename
     assert name is not None
     request.node.stash[FIXTURE] = Fixture(name, factory, request.scope != "function")
@@ -75,6 +87,14 @@ def pytest_runtest_setup(item: pytest.Item) -> None:
     if KEPT in item.stash:
         del item.stash[KEPT]
     item.stash[BEGUN] = {fixture.factory: fixture.factory.begun() for fixture in _fixtures_of(item)}
+
+
+@pytest.hookimpl(tryfirst=True)
+def pytest_runtest_call(item: pytest.Item) -> None:
+    """Tells the factories which test runs, whose faults its searches remember."""
+    for fixture in _fixtures_of(item):
+        if isinstance(fixture.factory, RememberingFactory):
+            fixture.factory.test_id = item.nodeid
 
 
 @pytest.hookimpl(hookwrapper=True)

@@ -20,6 +20,7 @@ class Settings:
     workers: Optional[int]
     program: Optional[str]
     artifacts: Optional[Path]
+    faults: Optional[Path]
 
 
 def add_settings(parser: pytest.Parser) -> None:
@@ -31,6 +32,7 @@ def add_settings(parser: pytest.Parser) -> None:
     about = "the program of the fixtures; else $TOXI, the package's own, or that of the PATH"
     group.addoption("--toxi-program", metavar="PATH", help=about)
     parser.addini("toxi_program", f"{about}. A path is relative to the ini's folder")
+    parser.addini("toxi_faults", "a folder, from that of the ini, where searches write what they find, by the test's id, and whose faults they run first")
     group.addoption("--toxi-artifacts", metavar="DIR", help="keeps files, logs and pages of red tests in DIR, by the test's id and attempt")
 
 
@@ -42,6 +44,7 @@ def settings_of(config: pytest.Config) -> Settings:
         _number(config, "workers"),
         config.getoption("--toxi-program") or _program_of_ini(config),
         None if artifacts is None else config.invocation_params.dir / artifacts,
+        _faults_of_ini(config),
     )
 
 
@@ -61,4 +64,13 @@ def _program_of_ini(config: pytest.Config) -> Optional[str]:
     program: str = config.getini("toxi_program")
     if os.sep not in program:
         return program or None
-    return str((config.inipath.parent if config.inipath else config.rootpath) / program)
+    return str(_ini_folder(config) / program)
+
+
+def _faults_of_ini(config: pytest.Config) -> Optional[Path]:
+    folder: str = config.getini("toxi_faults")
+    return _ini_folder(config) / folder if folder else None
+
+
+def _ini_folder(config: pytest.Config) -> Path:
+    return config.inipath.parent if config.inipath else config.rootpath

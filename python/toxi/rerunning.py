@@ -2,7 +2,7 @@
 import json
 from functools import partial
 from pathlib import Path
-from typing import Any, Callable, Dict, Iterable, List, Optional, Sequence, Union
+from typing import Any, Callable, Dict, Iterable, List, Mapping, Optional, Sequence, Union
 
 from ._search.presets import allowed_classes
 from ._search.running import MakeJudge
@@ -24,13 +24,14 @@ def rerun(
     eventually: Optional[Eventually] = None,
     settle: float = SETTLED_WITHIN,
     times: int = 1,
+    upstreams: Optional[Mapping[str, str]] = None,
 ) -> None:
     """Runs a client without a fault, and then `times` times under the script and the seed of the folder of a `Found`.
 
-    The rest is as for `find_fault`. Raises `AssertionError` where it isn't right.
+    Its upstreams are those of the folder, or where `upstreams` names them. The rest is as for `find_fault`. Raises `AssertionError` where it isn't right.
     """
     __tracebackhide__ = True
-    kept_runs = KeptRuns(_upstreams(folder), client, within, _seed(folder), before)
+    kept_runs = KeptRuns({**upstreams_of(folder), **(upstreams or {})}, client, within, _seed(folder), before)
     _require_right(kept_runs, partial(judge_of, check=check, allowed=allowed_classes(allowed), eventually=eventually, settle=settle), Path(folder), times)
 
 
@@ -43,10 +44,11 @@ def rerun_command(
     check: Optional[str] = None,
     within: float = WITHIN,
     times: int = 1,
+    upstreams: Optional[Mapping[str, str]] = None,
 ) -> None:
     """As `rerun`, for a command, whose outputs are ours. `before` and `check` are a shell's commands, as for `toxi-find`."""
     __tracebackhide__ = True
-    kept_runs = KeptRuns(_upstreams(folder), ShellClient(tuple(command), None), within, _seed(folder), before_of(before))
+    kept_runs = KeptRuns({**upstreams_of(folder), **(upstreams or {})}, ShellClient(tuple(command), None), within, _seed(folder), before_of(before))
     looks = None if check is None else checks_by(check)
     judge = partial(status_judge, allowed_statuses=allowed_statuses, direct=direct_command(kept_runs.upstreams, command), looks=looks)
     _require_right(kept_runs, judge, Path(folder), times)
@@ -67,7 +69,8 @@ def _require_right(kept_runs: KeptRuns, make_judge: MakeJudge, folder: Path, tim
             raise AssertionError(f"{verdict} under {folder / 'script.toml'}\n{detail_of(kept.outcome, verdict, judge.right)}".rstrip("\n"))
 
 
-def _upstreams(folder: StrPath) -> Dict[str, str]:
+def upstreams_of(folder: StrPath) -> Dict[str, str]:
+    """The upstreams of a folder by the names of their proxies."""
     return {proxy["name"]: proxy["upstream"] for proxy in _proxies(folder)}
 
 

@@ -142,14 +142,16 @@ class HandedOverTests(Searching):
 
     def test_what_was_allowed_is_imported_by_its_names(self):
         allowed = (http.client.HTTPException, ConnectionError, OwnConnectionError)
-        source = FunctionSource(clients.whole, clients.parts, allowed, None).test_text("about", 2.0, 3)
+        function = FunctionSource(clients.whole, clients.parts, allowed, None)
+        self.assertEqual(function.folders, [os.path.dirname(clients.__file__)])
+        source = function.test_text("about", 2.0, 3)
+        call = "rerun(Path(__file__).parent, client, check=check, allowed=(HTTPException, ConnectionError, ConnectionError3)"
         for line in (
-            f"sys.path[:0] = [{os.path.dirname(clients.__file__)!r}]",
             "from clients import whole as client",
             "from clients import parts as check",
             "from http.client import HTTPException",
             "from find_tests import OwnConnectionError as ConnectionError3",
-            "    rerun(Path(__file__).parent, client, check=check, allowed=(HTTPException, ConnectionError, ConnectionError3), within=2.0, times=3)",
+            f"    {call}, within=2.0, times=3, upstreams=toxi_upstreams)",
         ):
             self.assertIn(line, source.splitlines())
 
@@ -182,7 +184,7 @@ class HandedOverTests(Searching):
 
         found = self.found(every_other, runs=40)
         self.assertEqual((found.kind, found.script, found.failed, found.repeated), ("wrong answer", script_text(FIRST), 5, 10))
-        self.assertIn("times=10)", (found.folder / "test_found.py").read_text())
+        self.assertIn("times=10, ", (found.folder / "test_found.py").read_text())
 
     def test_what_no_repetition_shows_is_not_found(self):
         for told, turns, fails in (

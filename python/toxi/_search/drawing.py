@@ -5,9 +5,9 @@ from dataclasses import dataclass
 from typing import Dict, Iterator, List, Optional, Sequence, Set, Tuple
 
 from ..conversations import StreamBytes
-from ..delays import MAX_MS, Delays
+from ..delays import Delays
 from ..rules import Rule
-from ..toxics import Bandwidth, Latency, LimitData, ResetPeer, Slicer, SlowClose, Timeout, Toxic
+from ..toxics import MAX_MS, Bandwidth, Latency, LimitData, ResetPeer, Slicer, SlowClose, Timeout, Toxic
 from .cases import Case, word_of
 from .conversation import Conversation
 from .running import Called

@@ -1,7 +1,7 @@
 """Runs a search of any client: a function, a process of its own, or a command."""
 import time
 import warnings
-from dataclasses import dataclass
+from dataclasses import dataclass, replace
 from pathlib import Path
 from typing import Callable, List, Optional, Tuple
 
@@ -13,6 +13,8 @@ from ..found_folder import FoundFolder
 from .kept_runs import KeptRuns
 from .drawing import DrawnFaults
 from .failures import Failure
+from .memory import Memory
+from .pool import Pool
 from .result import Flaky, SearchResult, Tried
 from .searching import Searching, SearchLimits, Smallest, Watch
 from .running import MakeJudge
@@ -20,7 +22,8 @@ from .running import MakeJudge
 
 @dataclass
 class Engine:
-    """What a search needs. `folder` gives the folder of what is found by its number, from 1, or None for a new one."""
+    """What a search needs. `folder` gives the folder of what is found by its number, from 1, or None for a new one. `memory` has what was found
+    before."""
 
     setup: ClientSetup
     make_judge: MakeJudge
@@ -31,20 +34,35 @@ class Engine:
     limits: SearchLimits
     folder: Callable[[int], Optional[Path]]
     watch: Optional[Watch] = None
+    memory: Optional[Memory] = None
+    pool: Optional[Pool] = None
 
     def run(self) -> SearchResult:
         """Searches. Raises `ToxiError` where the client isn't right without a fault, and `ModuleNotFoundError` without Hypothesis, before anything runs."""
         __tracebackhide__ = True
         self._require()
+        remembered = [] if self.memory is None else self.memory.read()
         self._found: List[Found] = []
         self._searching = searching = Searching(
-            self.setup, self.make_judge, self.faults, self.limits, self.seed, self.root, self._hand_over, self.watch or (lambda progress: None)
+            self.setup,
+            self.make_judge,
+            self.faults,
+            self.limits,
+            self.seed,
+            self.root,
+            self._hand_over,
+            self.watch or (lambda progress: None),
+            remembered=remembered,
+            pool=self.pool,
         )
         try:
             ended_by = searching.run()
         except BaseException as error:
             self._tell_found(error)
             raise
+        finally:
+            if self.pool is not None:
+                self.pool.close()
         known = searching.conversation
         return SearchResult(
             tuple(self._found),
@@ -55,6 +73,7 @@ class Engine:
             () if known is None else tuple(map(str, known.limits)),
             searching.runner.count,
             time.monotonic() - searching.begun,
+            () if self.memory is None else self.memory.states(searching.remembered_verdicts),
         )
 
     def _tell_found(self, error: BaseException) -> None:
@@ -85,7 +104,8 @@ class Engine:
         options = {name: setup.options.get(name) for name in ("program", "workers")}
         kept_runs = KeptRuns(setup.upstreams, setup.client, setup.within, self.seed, setup.before, **options)
         folder = FoundFolder(self.folder(len(self._found) + 1), smallest, self.source, kept_runs, searching.runner.judge)
-        self._found.append(folder.found(searching.runner.count, time.monotonic() - searching.begun))
+        file = None if self.memory is None else self.memory.write(smallest.failure, self.seed)
+        self._found.append(replace(folder.found(searching.runner.count, time.monotonic() - searching.begun), remembered=file))
 
     def _tried(self) -> Tuple[Tried, ...]:
         tallies = sorted(self._searching.runner.tallies.items())

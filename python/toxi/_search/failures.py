@@ -30,7 +30,7 @@ class Failure:
     @property
     def is_hang(self) -> bool:
         """Whether it takes the whole limit each time."""
-        return self.verdict is HANG
+        return self.verdict == HANG
 
     @property
     def where(self) -> str:
@@ -40,7 +40,8 @@ class Failure:
         if isinstance(self.outcome.answer, Status):
             return self.outcome.answer.said
         error = self.outcome.error
-        if error is None:
+        # An exception of a worker has its places beside it.
+        if error is None or self.outcome.frames:
             return _innermost(self.outcome.frames, self.root)
         trace = traceback.extract_tb(error.__traceback__)
         return _innermost([(each.filename, each.lineno or 0, each.name) for each in trace], self.root)

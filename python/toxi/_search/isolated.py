@@ -21,8 +21,8 @@ class Isolated(Startable):
     """A function of a module, given by itself or as `module:function`. What it returns or raises is pickled."""
 
     def __init__(self, client: Union[Client, str]) -> None:
-        self._name = client if isinstance(client, str) else _name_of(client)
-        self.function_of(self._name)
+        self.name = client if isinstance(client, str) else _name_of(client)
+        self.function_of(self.name)
 
     @staticmethod
     def function_of(name: str) -> Client:
@@ -36,7 +36,7 @@ class Isolated(Startable):
 
     def start(self, addresses: Addresses) -> StartedRun:
         """Starts a process that runs it."""
-        return _ProcessRun(self._name, addresses)
+        return _ProcessRun(self.name, addresses)
 
 
 def _missing(name: str) -> Any:

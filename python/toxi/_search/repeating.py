@@ -24,13 +24,15 @@ HANG_SHARE = 1 / 4
 
 @dataclass
 class Repeating:
-    """Repeats failures within a budget, in seconds. `takes` says of a case whether its faults are asked for. `current` is the failure that is shrunk."""
+    """Repeats failures within a budget, in seconds. `takes` says of a case whether its faults are asked for. `current` is the failure that is
+    shrunk. It `is_cut` where the clock has broken shrinking off."""
 
     runner: Runner
     root: Path
     budget: float
     takes: Callable[[Case], bool]
     current: Optional[Failure] = None
+    is_cut: bool = False
 
     def comes_again(self, failure: Failure) -> bool:
         """Whether the client fails in the same way each time. One that didn't return isn't run again."""
@@ -103,5 +105,7 @@ class Repeating:
     def _require_reserve(self, like: Failure) -> None:
         """Shrinking leaves the repetitions their time, and hangs take a quarter of the budget at most."""
         reserve = min(REPETITIONS * like.outcome.seconds, REPETITION_SHARE * self.budget)
-        if time.monotonic() + reserve >= self.runner.end or (like.is_hang and self.runner.hanging > HANG_SHARE * self.budget):
+        is_late = time.monotonic() + reserve >= self.runner.end
+        self.is_cut = self.is_cut or is_late
+        if is_late or (like.is_hang and self.runner.hanging > HANG_SHARE * self.budget):
             raise Over("budget")

@@ -5,6 +5,7 @@ from html import escape
 from typing import Dict, List, Tuple
 
 from ..found import Found
+from .memory import Remembered
 
 ENDINGS_OF_SEARCH = ("done", "budget", "interrupted", "max_found", "client_stuck")
 
@@ -38,6 +39,7 @@ class SearchResult:
     `found` are the different faults, each with its folder, and `flaky` what came but didn't come again. `tried` counts the runs under each fault.
     `ended_by` is `done`, `budget`, `interrupted`, `max_found` or `client_stuck`. `phases` are those that were done: `boundaries`, `late answers`,
     `outages`, `drawn`. `limits` are the client's time limits, as silence has shown them. `runs` and `seconds` are those of the whole search.
+    `remembered` are the files of what earlier searches have found, and what became of each.
     """
 
     found: Tuple[Found, ...]
@@ -48,6 +50,7 @@ class SearchResult:
     limits: Tuple[str, ...]
     runs: int
     seconds: float
+    remembered: Tuple[Remembered, ...] = ()
 
     @property
     def first_phase_done(self) -> bool:
@@ -78,7 +81,7 @@ class SearchResult:
         limits = [f"time limit {limit}" for limit in self.limits]
         flaky = [f"flaky: {each.kind}" for each in self.flaky]
         missed = [f"never reached: {each.connection} {each.stream} {each.fault}" for each in self.never_reached]
-        return "\n".join([*(f"{found}\n" for found in self.found), *flaky, *limits, *missed, self.summary])
+        return "\n".join([*(f"{found}\n" for found in self.found), *map(str, self.remembered), *flaky, *limits, *missed, self.summary])
 
     def __repr__(self) -> str:
         return f"<SearchResult: {self.summary}>"
@@ -94,6 +97,7 @@ class SearchResult:
             "limits": list(self.limits),
             "runs": self.runs,
             "seconds": round(self.seconds, 3),
+            "remembered": [{"file": str(each.file), "kind": each.kind, "state": each.state} for each in self.remembered],
         }
         return json.dumps(members, indent=1) + "\n"
 
@@ -104,7 +108,8 @@ class SearchResult:
         rows = "".join(_row("td", [each.fault, each.stream, each.connection, str(each.runs), str(each.reached)]) for each in self.tried)
         head = _row("th", ["Fault", "Stream", "Connection", "Runs", "Reached"])
         limits = "".join(f"<li>{escape(limit)}</li>" for limit in self.limits)
-        body = [f"<p>{escape(self.summary)}</p>", *found, *flaky, f"<h2>Time limits</h2><ul>{limits}</ul>", f"<h2>Tried</h2><table>{head}{rows}</table>"]
+        known = f"<h2>Remembered</h2><ul>{''.join(f'<li>{escape(str(each))}</li>' for each in self.remembered)}</ul>" if self.remembered else ""
+        body = [f"<p>{escape(self.summary)}</p>", *found, known, *flaky, f"<h2>Time limits</h2><ul>{limits}</ul>", f"<h2>Tried</h2><table>{head}{rows}</table>"]
         return "\n".join([PAGE_HEAD, *body, "</body></html>", ""])
 
 

@@ -1,10 +1,9 @@
 """`Runner` runs a client under cases, in batches, within a budget, and counts what came."""
-import socket
-import threading
+import itertools
 import time
 from collections import Counter, deque
 from dataclasses import dataclass, field, replace
-from typing import Callable, Deque, Dict, Iterable, Iterator, List, Sequence, Set, Tuple
+from typing import Callable, Deque, Dict, Iterable, Iterator, List, Optional, Sequence, Set, Tuple
 
 from ..batches import Batch, BatchRun, ClientSetup
 from ..conversations import StreamBytes, StreamKey, longer_streams
@@ -13,6 +12,9 @@ from ..lines import Link
 from ..outcomes import GRACE, Judge, Outcome, Verdict
 from .cases import Case, Place, word_of
 from .conversation import Conversation
+from .in_order import InOrder
+from .pool import Pool
+from .services import absent_services
 from .words import POSITIONS, REFUSED
 
 MakeJudge = Callable[[Sequence[Outcome]], Judge]
@@ -26,8 +28,8 @@ UNFAULTED = 2
 # Pieces that come at once are one piece in most runs. So more runs are recorded: as many as take so many seconds, and at most so many.
 RECORDING = 1.0
 MOST_RECORDED = 14
-# How long a service that may not be there is looked for, in seconds.
-CONNECT_LIMIT = 2.0
+# So many cases are a batch, whatever the workers. What a batch finds is looked at before the next one begins.
+BATCH = 64
 # With so many clients that don't return a search ends.
 MAX_STUCK = 8
 
@@ -49,36 +51,34 @@ class Tally:
 
 
 class Cases:
-    """Cases that are still to be run."""
+    """Cases that are still to be run, or whose verdicts are still to be taken."""
 
     def __init__(self, cases: Iterable[Case]) -> None:
         self._source = iter(cases)
-        self._front: Deque[Case] = deque()
+        self._front: Deque[BatchRun] = deque()
 
-    def taken(self, most: int) -> List[Case]:
+    def taken(self, most: int) -> List[BatchRun]:
         """The next ones, at most so many."""
-        while len(self._front) < most:
-            following = next(self._source, None)
-            if following is None:
-                break
-            self._front.append(following)
+        missing = max(most - len(self._front), 0)
+        self._front.extend(map(BatchRun, itertools.islice(self._source, missing)))
         return [self._front.popleft() for _ in range(min(most, len(self._front)))]
 
-    def put_back(self, cases: Iterable[Case]) -> None:
-        """They are the next ones again."""
-        self._front.extendleft(reversed(list(cases)))
+    def put_back(self, runs: Sequence[BatchRun]) -> None:
+        """They are the next ones again. One that has its verdict isn't run again."""
+        self._front.extendleft(reversed(runs))
 
 
 @dataclass
 class Runner:
     """Runs cases. `end` is when the budget is used, by `time.monotonic`. `watch` is called after each run, and `finished` with each once its links have their
-    lines, also where something ends the batch. `count` counts the runs, but for those without a fault."""
+    lines, also where something ends the batch. A `pool` runs them, if one is given. `count` counts the runs, but for those without a fault."""
 
     setup: ClientSetup
     make_judge: MakeJudge
     end: float
     watch: Callable[[], object] = lambda: None
     finished: Callable[[BatchRun], object] = lambda run: None
+    pool: Optional[Pool] = None
     count: int = 0
     stuck: int = 0
     hanging: float = 0.0
@@ -87,7 +87,6 @@ class Runner:
     called: Called = field(default_factory=dict)
     judge: Judge = field(init=False)
     _recorded: Set[StreamKey] = field(default_factory=set)
-    _lock: threading.Lock = field(default_factory=threading.Lock)
 
     def learn(self, slowest_share: float) -> Conversation:
         """Runs the client twice without a fault. Raises `ToxiError` where it isn't right, takes more than a share of its limit, or makes no connection."""
@@ -120,29 +119,29 @@ class Runner:
         __tracebackhide__ = True
         found: List[BatchRun] = []
         while len(found) < UNFAULTED:
-            batch = Batch(replace(self.setup, jobs=1), [Case()] * min(UNFAULTED - len(found), self.setup.batch_size))
-            batch.run()
-            found += batch.runs
+            found += self._recorded_runs(self.setup, min(UNFAULTED - len(found), self.setup.batch_size))
         return found
 
     def _require_services(self, error: ToxiError) -> None:
         """Raises `ToxiError` for a service that isn't there, which is why a client isn't right without a fault."""
         __tracebackhide__ = True
-        for name, upstream in self.setup.upstreams.items():
-            host, _, port = upstream.rpartition(":")
-            try:
-                socket.create_connection((host.strip("[]"), int(port)), CONNECT_LIMIT).close()
-            except (OSError, ValueError) as absent:
-                raise ToxiError(f"no service answers at {upstream}, the upstream {name!r}: {absent}\n{error}") from None
+        for name, upstream, absent in absent_services(self.setup.upstreams):
+            raise ToxiError(f"no service answers at {upstream}, the upstream {name!r}: {absent}\n{error}") from None
 
     def _more_recorded(self, count: int) -> List[BatchRun]:
         """More runs without a fault, for their pieces, by threads that several share."""
         __tracebackhide__ = True
-        if not count:
-            return []
-        batch = Batch(replace(self.setup, shares_threads=True), [Case()] * count)
-        batch.run()
-        return batch.runs
+        return self._recorded_runs(replace(self.setup, shares_threads=True), count) if count else []
+
+    def _recorded_runs(self, setup: ClientSetup, count: int) -> List[BatchRun]:
+        """Runs without a fault, one after the other: what they show is that of one job, whatever the jobs."""
+        __tracebackhide__ = True
+        runs = [BatchRun(Case()) for _ in range(count)]
+        if self.pool is None:
+            Batch(replace(setup, jobs=1), runs).run()
+        while self.pool is not None and all(run.outcome is None for run in runs):
+            self.pool.run(replace(setup, jobs=1), runs, None, True)
+        return runs
 
     def measure(self, conversation: Conversation, cases: "Cases", ended: Ended, wanted: Wanted) -> Conversation:
         """The conversation with the time limits of the client. Its runs count as others do."""
@@ -150,40 +149,50 @@ class Runner:
         return conversation.with_limits(list(self.run(cases, ended, wanted, reads_logs=True)))
 
     def run(self, cases: "Cases", ended: Ended, wanted: Wanted = lambda case: True, reads_logs: bool = False) -> Iterator[BatchRun]:
-        """Runs cases until `ended` is false, and leaves the others in `cases`. Gives those that have an outcome. A case that isn't `wanted` when its turn
-        comes is dropped. Raises `Over` at the end of the budget, and where clients don't return."""
+        """Runs cases until `ended` is false, and leaves the others in `cases`. Gives those whose verdicts were taken, in the order of the cases. A case that
+        isn't `wanted` when its turn comes is dropped. Raises `Over` at the end of the budget, and where clients don't return."""
         __tracebackhide__ = True
         goes_on = [True]
+
+        def take(run: BatchRun) -> bool:
+            __tracebackhide__ = True
+            assert run.outcome is not None and run.verdict is not None
+            self._note(run.outcome)
+            goes_on[0] = ended(run, run.verdict)
+            self.watch()
+            # A hang takes long, so it is looked at before more may come.
+            return goes_on[0] and not run.outcome.hung and time.monotonic() < self.end
+
         while goes_on[0]:
-            some = cases.taken(self.setup.batch_size)
+            some = cases.taken(BATCH)
             if not some:
                 return
-            yield from self._batch(some, cases, ended, wanted, reads_logs, goes_on)
+            yield from self._batch(cases, InOrder(some, take, wanted), reads_logs)
 
-    def _batch(self, some: List[Case], cases: "Cases", ended: Ended, wanted: Wanted, reads_logs: bool, goes_on: List[bool]) -> List[BatchRun]:
+    def _batch(self, cases: "Cases", order: InOrder, reads_logs: bool) -> List[BatchRun]:
+        """Runs a batch, by as many `serve` as it takes. Gives the runs whose verdicts were taken."""
         __tracebackhide__ = True
 
         def one_ended(run: BatchRun) -> bool:
             __tracebackhide__ = True
             assert run.outcome is not None
-            verdict = self.judge.verdict(run.outcome)
-            with self._lock:
-                self._note(run.outcome)
-                goes_on[0] = ended(run, verdict) and goes_on[0]
-                self.watch()
-            return goes_on[0] and time.monotonic() < self.end
+            # A worker has judged it where it ran.
+            run.verdict = run.verdict or self.judge.verdict(run.outcome)
+            return order.advance()
 
-        batch = Batch(self.setup, some, one_ended, wanted, reads_logs)
         try:
             self.require_time()
-            batch.run()
+            while order.advance() and (some := order.to_run):
+                if self.pool is None:
+                    Batch(self.setup, some[: self.setup.batch_size], one_ended, order.may_begin, reads_logs).run()
+                else:
+                    self.pool.run(self.setup, some, self.judge, reads_logs, one_ended)
         finally:
-            cases.put_back(run.case for run in batch.runs if run.outcome is None and not run.dropped)
-            for run in batch.runs:
+            cases.put_back(order.left)
+            for run in order.taken:
                 self._tally(run)
-                if run.outcome is not None:
-                    self.finished(run)
-        return [run for run in batch.runs if run.outcome is not None]
+                self.finished(run)
+        return order.taken
 
     def require_time(self) -> None:
         """Raises `Over` where no more is to be run."""
@@ -195,12 +204,11 @@ class Runner:
     def _note(self, outcome: Outcome) -> None:
         self.count += 1
         self.stuck += not outcome.returned
-        self.hanging += (outcome.seconds + (0 if outcome.returned else GRACE)) if outcome.hung else 0
+        # By the limit, and not by the clock: what hangs may take is equal for any number of jobs.
+        self.hanging += (self.setup.within + (0 if outcome.returned else GRACE)) if outcome.hung else 0
 
     def _tally(self, run: BatchRun) -> None:
         """Counts a run for each of its faults, and the connections that it made."""
-        if run.outcome is None:
-            return
         for link in run.links:
             self.connections[link.proxy] = max(self.connections[link.proxy], link.number)
             self._note_called(run.case, link)

@@ -17,6 +17,8 @@ from ..sweep_table import Sweep
 from .drawing import DrawnFaults
 from .engine import Engine
 from .isolated import Isolated
+from .memory import Memory
+from .pool import Executors, Pool
 from .presets import allowed_classes
 from .progress import python_line, python_progress
 from .result import SearchResult
@@ -35,6 +37,8 @@ class Search:
     `allowed`, or of a preset: `"http"`, `"redis"`, `"postgres"`, `"any"`; or if it takes more than `within` seconds beside what its faults delay. A check that needs two
     arguments gets the run too: links, script, seconds. `eventually` is asked of the run each 50 ms until it is true, at most `settle` seconds. `before` is
     called before each run, and `jobs` clients run at once. `root` is the folder of the client's own files, else the current one.
+    `find` writes each fault into the folder `remember` too, below the `name` of the client, and runs those that are there first.
+    With `executor`, a `concurrent.futures.Executor` or a callable that makes one, `find` runs the client where that does, by its name.
     """
 
     upstreams: Mapping[str, str]
@@ -51,6 +55,9 @@ class Search:
     eventually: Optional[Eventually] = None
     settle: float = SETTLED_WITHIN
     root: Optional[StrPath] = None
+    remember: Optional[StrPath] = None
+    name: Optional[str] = None
+    executor: Optional[Executors] = None
 
     def find(
         self,
@@ -87,6 +94,8 @@ class Search:
                 SearchLimits(runs, budget, max_found),
                 functools.partial(numbered, None if folder is None else Path(folder)),
                 shown,
+                Memory.of(self.remember, self.name, self.upstreams),
+                self._pool,
             ).run()
 
     def sweep(
@@ -105,6 +114,8 @@ class Search:
         `connections` sweeps the first so many of each proxy alone. `budget`, in seconds, and `max_found`, points that fail, end it before.
         """
         __tracebackhide__ = True
+        if self.executor is not None:
+            raise ValueError("a sweep has no executor; `find` has one")
         from ..sweeping import Sweeping, chooser, progress_text
 
         judge = functools.partial(judge_of, check=self.check, allowed=self._allowed, eventually=self.eventually, settle=self.settle)
@@ -122,11 +133,16 @@ class Search:
         from ..rerunning import rerun
 
         judged: Dict[str, Any] = {"check": self.check, "allowed": self._allowed, "eventually": self.eventually, "settle": self.settle}
-        rerun(folder, self._client, within=self.within, before=self.before, times=times, **judged)
+        rerun(folder, self._client, within=self.within, before=self.before, times=times, upstreams=self.upstreams, **judged)
 
     @property
     def _allowed(self) -> Allowed:
         return allowed_classes(self.allowed)
+
+    @property
+    def _pool(self) -> Optional[Pool]:
+        """The pool of the client. Raises `ToxiError` for one that no worker finds by a name."""
+        return None if self.executor is None else Pool(self.executor, Isolated(self.client).name, self.isolated)
 
     @property
     def _function(self) -> Client:

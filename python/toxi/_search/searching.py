@@ -3,7 +3,7 @@ import itertools
 import time
 from dataclasses import dataclass, field
 from pathlib import Path
-from typing import Callable, Iterable, List, Optional, Set, Tuple
+from typing import Callable, Dict, Iterable, List, Optional, Sequence, Set, Tuple
 
 from ..batches import BatchRun, ClientSetup
 from ..outcomes import Verdict
@@ -15,6 +15,7 @@ from .drawing import DrawnFaults, Drawing, drawn_cases
 from .failures import Failure, FailureKey
 from .known import Known
 from .phases import boundary_cases, late_cases, outage_cases
+from .pool import Pool
 from .repeating import HANG_SHARE, REPETITIONS, Repeating
 from .running import Cases, Ended, MakeJudge, Over, Runner
 
@@ -26,6 +27,9 @@ HANGS_OF_PLACE = 2
 SLOWEST_SHARE = 0.5
 # Of so many drawn scripts those that delay nothing come first.
 DRAWN_AT_ONCE = 200
+# A remembered fault that isn't seen in so many runs is mended.
+REMEMBERED_RUNS = 3
+REMEMBERED = "remembered"
 PHASES = ("boundaries", "late answers", "outages", "drawn")
 
 
@@ -72,7 +76,8 @@ Handed = Callable[[Smallest], object]
 
 @dataclass
 class Searching:
-    """A search under way. `handed` is called with each fault that repetitions have shown."""
+    """A search under way. `handed` is called with each fault that repetitions have shown. Cases that are `remembered` are run first, and have their verdicts by
+    their keys in `remembered_verdicts`."""
 
     setup: ClientSetup
     make_judge: MakeJudge
@@ -87,6 +92,9 @@ class Searching:
     done: List[str] = field(default_factory=list)
     conversation: Optional[Conversation] = None
     smallest: Optional[Smallest] = None
+    remembered: Sequence[Case] = ()
+    pool: Optional[Pool] = None
+    remembered_verdicts: Dict[str, Verdict] = field(default_factory=dict)
     _failures: Known = field(default_factory=Known)
     _given: Set[FailureKey] = field(default_factory=set)
     _known: Set[str] = field(default_factory=set)
@@ -94,7 +102,9 @@ class Searching:
 
     def __post_init__(self) -> None:
         self.begun = time.monotonic()
-        self.runner = Runner(self.setup, self.make_judge, self.begun + self.limits.budget, self._watch)
+        if self.pool is not None:
+            self.pool.end = self.begun + self.limits.budget
+        self.runner = Runner(self.setup, self.make_judge, self.begun + self.limits.budget, self._watch, pool=self.pool)
         self._repeating = Repeating(self.runner, self.root, self.limits.budget, self._takes)
 
     def run(self) -> str:
@@ -102,7 +112,8 @@ class Searching:
         __tracebackhide__ = True
         try:
             self._learn_and_search()
-            return "max_found" if self._is_full else "done" if len(self.done) == len(PHASES) else "budget"
+            is_done = len(self.done) == len(PHASES) and not self._repeating.is_cut
+            return "max_found" if self._is_full else "done" if is_done else "budget"
         except Over as over:
             return over.why
         except KeyboardInterrupt:
@@ -123,7 +134,9 @@ class Searching:
     def _search(self) -> None:
         __tracebackhide__ = True
         assert self.conversation is not None
-        self._measure(self.conversation)
+        self._run_remembered()
+        if not self._is_full:
+            self._measure(self.conversation)
         phases: List[Tuple[str, Callable[[Conversation], Iterable[Case]]]] = [
             (PHASES[0], lambda known: boundary_cases(known, self.setup.within)),
             (PHASES[1], late_cases),
@@ -138,6 +151,15 @@ class Searching:
             self._run(self._queue(cases(self.conversation)))
             if not (self._is_full or self._must_shrink):
                 self.done.append(name)
+
+    def _run_remembered(self) -> None:
+        """Runs each remembered case until it fails, at most `REMEMBERED_RUNS` times, since some fail now and then."""
+        __tracebackhide__ = True
+        self._phase = REMEMBERED if self.remembered else PHASES[0]
+        for _ in range(REMEMBERED_RUNS):
+            verdicts = self.remembered_verdicts
+            self._run(Cases([case for case in self.remembered if case.key not in verdicts or not verdicts[case.key].is_fault]))
+        self._known.update(self.remembered_verdicts)
 
     def _measure(self, conversation: Conversation) -> None:
         """Learns the client's time limits. Its failures under silence count if silence is asked for."""
@@ -202,6 +224,8 @@ class Searching:
 
     def _ended(self, run: BatchRun, verdict: Verdict) -> bool:
         """Notes a failure. Returns whether others may be run before it is looked at."""
+        if self._phase == REMEMBERED:
+            self.remembered_verdicts[run.case.key] = verdict
         if not verdict.is_fault or run.outcome is None:
             return not self._must_shrink
         failure = Failure(run.case, verdict, run.outcome, self.root)
