@@ -1,6 +1,7 @@
 """When faults are explained. What explanations say is a table of tests/rows, mistakes.toml."""
 import os
 import pty
+import socket
 import subprocess
 import threading
 
@@ -101,6 +102,40 @@ def explains_what_the_system_refused(program, folder):
     assert found.startswith("toxi: C1 ") and "  a byte order mark, which nobody sees, stands at its start\n" in found, found
 
 
+def write_files(folder, script):
+    """The files of a proxy `shop` and this script, as arguments."""
+    for name, text in (("proxies.json", '[{"name": "shop", "upstream": "localhost:1"}]'), ("script.toml", script)):
+        with open(os.path.join(folder, name), "w", encoding="utf-8") as file:
+            file.write(text)
+    return ["--config", "proxies.json", "--script", "script.toml"]
+
+
+def explains_a_port_of_another_program(program, folder):
+    with socket.create_server(("127.0.0.1", 0)) as taken:
+        address = "127.0.0.1:%d" % taken.getsockname()[1]
+        found = said(program, ["serve", "--listen", address, "--upstream", "localhost:1", "--seed", "1"], "1", folder)
+    port = address.rpartition(":")[2]
+    assert found == (
+        "toxi: P4 ListenRefused default\n"
+        f"  listen: {address}\n"
+        "  Address already in use (os error 98)\n"
+        f"  another program listens at port {port}: `ss -ltnp 'sport = :{port}'` tells which; give one of them another port, or 0 for one of the system's choice\n"
+    ), found
+
+
+def tells_a_toxic_that_is_not_there(program, folder):
+    files = write_files(folder, '[[rule]]\nproxy = "shop"\nfirst = 1\n[[rule.toxic]]\nname = "flaky"\ntype = "latency"\n')
+    asked = ["forecast", *files, "--proxy", "shop", "--links", "1", "--seed", "1", "--where"]
+    for name, told, wanted in (
+        ("flakes", "1", "toxi: warning: no toxic has the name flakes (flaky?)\n"),
+        ("other", "1", "toxi: warning: no toxic has the name other\n"),
+        ("flaky", "1", ""),
+        ("flakes", None, ""),
+    ):
+        found = said(program, [*asked, name], told, folder)
+        assert found == wanted, (name, found)
+
+
 def explains_a_script_by_a_fifo(program, folder):
     """It isn't read again."""
     with open(os.path.join(folder, "proxies.json"), "w", encoding="utf-8") as file:
@@ -128,6 +163,8 @@ CASES = [
     explains_where_asked,
     explains_lines_to_their_end,
     explains_what_the_system_refused,
+    explains_a_port_of_another_program,
+    tells_a_toxic_that_is_not_there,
     explains_on_a_terminal,
     explains_a_script_by_a_fifo,
     waits_for_no_second_log,

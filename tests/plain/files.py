@@ -18,6 +18,11 @@ def is_text(value, most):
     return isinstance(value, str) and 1 <= len(value.encode()) <= most
 
 
+# The members of an object of a populate file, and those that Toxiproxy prints beside them.
+MEMBERS = ("name", "listen", "upstream", "enabled")
+TOXIPROXYS = ("toxics", "Logger")
+
+
 def is_tables(value):
     return isinstance(value, list) and all(isinstance(table, dict) for table in value)
 
@@ -228,7 +233,7 @@ def forecast_text(config, script, proxy, links, seed, stream=None, named=None):
     for number, rule in enumerate(rules, 1):
         for toxic, (side, place, _) in enumerate(rule[4] if met[number] else [], 1):
             name = rule[3][side][place][0]
-            lines.append(f"rule {number} toxic {toxic} applied {applied[number, side, place]} of {met[number]} {name}")
+            lines.append(f"rule {number} toxic {toxic} applied {applied[number, side, place]} of {met[number]} {shown(name)}")
     return "".join(line + "\n" for line in lines)
 
 
@@ -337,11 +342,32 @@ def proxy_lines(name, listen, upstream):
         yield f"proxy {shown(name)} upstream is its own address: {upstream}"
 
 
+def noted_lines(values):
+    """What is told of the members that aren't read, and of names that stand more than once."""
+    unread = [(value["name"], key) for value in values for key in sorted(value, key=str.encode) if key not in MEMBERS]
+    lines = [f"proxy {shown(name)} has an unknown member: {shown(key)}{near(key, MEMBERS)}" for name, key in unread if key not in TOXIPROXYS]
+    if any(key in TOXIPROXYS for _, key in unread):
+        lines.append("the file has toxics as Toxiproxy prints them, which aren't read: examples/from-toxiproxy makes a script of them")
+    counts = Counter(value["name"] for value in values)
+    return lines + [f"proxy {shown(name)} is defined {count} times: the last one counts" for name, count in counts.items() if count > 1]
+
+
+def shared_lines(proxies):
+    """Of each enabled proxy the first behind it that listens at its address."""
+    enabled = [(name, listen) for name, (listen, _, enabled) in proxies.items() if enabled]
+    for place, (name, listen) in enumerate(enabled):
+        others = [other for other, there in enabled[place + 1 :] if there == listen]
+        if others and listen.rpartition(":")[2].strip("0"):
+            yield f"proxy {shown(others[0])} listens where proxy {shown(name)} does: {listen}"
+
+
 def check_text(config, script, verbose):
     """What `check` prints, and how many warnings that are."""
     proxies = read_populate(config)
     _, _, rules = read_script(script)
-    lines = [line for name, (listen, upstream, enabled) in proxies.items() if enabled for line in proxy_lines(name, listen, upstream)]
+    lines = noted_lines(read_json(config))
+    lines += [line for name, (listen, upstream, enabled) in proxies.items() if enabled for line in proxy_lines(name, listen, upstream)]
+    lines += shared_lines(proxies)
     for number, (proxy, _, _, chains, order, *_) in enumerate(rules, 1):
         if proxy not in proxies:
             lines.append(f"rule {number} never applies: no proxy {shown(proxy)}{near(proxy, proxies)}")

@@ -148,12 +148,14 @@ class Log:
                 yield kind, values
 
     def is_settled(self):
-        due = [0 if kind == "timeout" else 1000 * values["timeout"] for kind, values in self.applied() if "timeout" in values]
+        # One that begins behind some bytes alone may never begin.
+        begins = [(kind, values) for kind, values in self.applied() if "timeout" in values and (values.get("from") or not values.get("after"))]
+        due = [0 if kind == "timeout" else 1000 * values["timeout"] for kind, values in begins]
         known = any(isinstance(item, str) for _, item in self.given([]))
         return self.end is not None or known or min(due, default=HORIZON + 1) <= self.latest
 
     def line(self):
-        link = f"{self.name} {self.number} {self.stream}"
+        link = f"{files.shown(self.name)} {self.number} {self.stream}"
         if self.unfaithful:
             return f"unfaithful {link} line {self.unfaithful}"
         counts = f"in {self.heard} out {self.said}"
@@ -196,11 +198,12 @@ def random_toxic(random):
 
 def random_log(random):
     """A log as a live link may write it."""
-    name = random.choice(("shop", "a b", "é", "x\\x0a", "3 upstream"))
+    name = random.choice(("shop", "a b", "é", "x\\x0a", "3 upstream", "\x9b\u202e"))
     lanes = random.choice((16, 32))
     head = ["toxi log 1", f"link {name} {random.randint(1, 1_000_000)} {random.choice(('upstream', 'downstream'))}"]
     head.append(f"lanes {lanes} seed {random.choice((0, 2, random.randrange(2**64)))}")
-    head += [f"toxic {random_toxic(random)} {random.choice(('slow', 'a b', 'x'))}" for _ in range(random.choice((0, 1, 1, 2, 3)))]
+    names = ("slow", "a b", "x", "\x9b")
+    head += [f"toxic {random_toxic(random)} {random.choice(names)}" for _ in range(random.choice((0, 1, 1, 2, 3)))]
     log, lines = Log(), list(head)
     for number, line in enumerate(head, 1):
         log.read_header(number, line.encode()) if number <= 3 else log.chain.append(read_toxic(line.encode()))

@@ -111,7 +111,7 @@ def populate(random, names):
         if random.random() < 0.5:
             members.append(member(random, "enabled", ["true", "false", "null"], ["1"], chance))
         if random.random() < 0.2:
-            members.append('"other": [{"a": [1, -2.5e3, "\\u00e9"]}]')
+            members.append(random.choice(('"other"', '"listn"', '"toxics"', '"\\u009b"')) + ': [{"a": [1, -2.5e3, "\\u00e9"]}]')
         random.shuffle(members)
         objects.append(mostly(random, ["{" + ", ".join(members) + "}"], ["1", "null"], chance))
     pool = [*'[]{}",: \n\\09-e', "null", "true", '"name"', '"listen"', '"x":', "\t", "é", "1e5", "{}"]
@@ -131,7 +131,7 @@ def toxic(random, place, version, chance):
         good = TOXICITIES + TOXICITY_TEXTS if version == 2 else TOXICITIES
         lines.append(f"toxicity = {mostly(random, good, NO_TOXICITIES, chance)}")
     if random.random() < 0.8 or place > 1:
-        name = random.choice(("né", "a b", "x" * 61)) + f" {place}"
+        name = random.choice(("né", "a b", "x" * 61, "\x9b31m", "\u202e \xa0")) + f" {place}"
         lines.append(f"name = {quoted(mostly(random, [name], ['né 0', 'x' * 65], chance))}")
     random.shuffle(lines)
     return ["[[rule.toxic]]", *lines]
