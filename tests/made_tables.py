@@ -50,10 +50,15 @@ def field_name(attribute):
     return attribute.name + ("_" if attribute.name == "from" else "")
 
 
-def python_attribute(attribute):
+def sentence(attribute):
+    """What an attribute does, its unit and its range."""
     told = f", {range_of(attribute)}" if range_of(attribute) else ""
     needed = "; it has to be given" if attribute.required else ""
-    return f"    `{field_name(attribute)}`: {attribute.words}. In {attribute.unit}{told}{needed}."
+    return f"{attribute.words}. In {attribute.unit}{told}{needed}."
+
+
+def python_attribute(attribute):
+    return f"    `{field_name(attribute)}`: {sentence(attribute)}"
 
 
 def python_class(table, toxic):
