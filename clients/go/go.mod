@@ -1,0 +1,3 @@
+module toxi.invalid/toxi
+
+go 1.19
