@@ -33,6 +33,8 @@ pub struct ServeArguments<'a> {
     pub folder: Option<&'a str>,
     /// Whether what `check` finds isn't reported on standard error.
     pub quiet: bool,
+    /// Whether the end of standard input tells it to end.
+    pub until_eof: bool,
     pub options: ServeOptions<'a>,
 }
 
@@ -177,6 +179,11 @@ pub(crate) const SERVE: CommandForm = CommandForm {
             absent: Absent::Words("each link has four of its own"),
             ..OPTION
         },
+        Argument {
+            name: "until-eof",
+            help: "Reads and drops standard input, and ends at its end as at SIGTERM",
+            ..FLAG
+        },
         // What is logged and printed.
         Argument {
             name: "log",
@@ -250,6 +257,7 @@ fn serving<'a>(given: &ArgMatches<'a>, source: ServeSource<'a>) -> Task<'a> {
         seed: given.get_one::<u64>("seed"),
         folder: given.get_str("log"),
         quiet: given.get_flag("quiet"),
+        until_eof: given.get_flag("until-eof"),
         options: options_of(given),
     })
 }

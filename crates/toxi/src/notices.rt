@@ -87,3 +87,12 @@ pub fn send_notice<R: AllocGlobal + Wait, D: Display>(rt: &R, channel: &NoticeCh
         channel.send(rt, line.as_bytes());
     }
 }
+
+/// Prints a line to standard error at once: `toxi: ` and a text. Where there is no room for 400 milliseconds it is dropped.
+pub fn tell_soon<R: Eprint + Wait, D: Display>(rt: &R, text: &D) {
+    let ended = Stop::new();
+    ended.request(rt);
+    if Room::new(rt, &ended, ERRORS).wait() {
+        let _ = eprintln!(rt; "toxi: {text}");
+    }
+}

@@ -1,8 +1,9 @@
 //! How far a command is that reads logs, on a terminal, once it has worked for a second.
+use crate::due::{after, is_over};
 use std::cell::Cell;
 use std::io::{Read, Write};
 use std::rt::Files;
-use std::time::{Clock, Duration, Instant};
+use std::time::{Clock, Instant};
 use std::{fmt, fs, io};
 
 /// How long a command works before it tells how far it is, in milliseconds.
@@ -182,20 +183,6 @@ impl<'r, R: Clock + Eprint + Files> Progress<'r, R> {
             work.within_line = *last != b'\n';
             self.work.set(work);
         }
-    }
-}
-
-/// The instant so many milliseconds from now. None without a clock.
-fn after(rt: &impl Clock, millis: u64) -> Option<Instant> {
-    Instant::now(rt)
-        .ok()?
-        .checked_add(Duration::from_millis(millis))
-}
-
-fn is_over(rt: &impl Clock, due: Instant) -> bool {
-    match Instant::now(rt) {
-        Ok(now) => due <= now,
-        Err(_) => false,
     }
 }
 

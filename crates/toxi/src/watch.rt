@@ -3,6 +3,7 @@
 use crate::explaining::Explaining;
 use crate::fail;
 use crate::inline::fail_inline;
+use crate::input_end::stop_at_end_of_input;
 use crate::serve::{ServeJob, hold_descriptor, serve_job};
 use crate::shutdown::Shutdown;
 use crate::status::ProcessStatus;
@@ -24,7 +25,7 @@ const TURN: u64 = 50;
 /// proxy are given up after 750, and its totals are written then.
 const STOPPING_TURNS: u64 = 18;
 
-/// What the two threads share.
+/// What the threads share.
 #[derive(Drop)]
 struct Serving {
     shutdown: Shutdown,
@@ -100,7 +101,7 @@ struct Progress {
 
 /// Serves what the files set up, until no proxy is served any more or a signal tells the program to end.
 #[inline(never)]
-pub fn serve<R: Print + Eprint + Files + AllocGlobal + ServeRuntime>(
+pub fn serve<R: Input + Print + Eprint + Files + AllocGlobal + ServeRuntime>(
     rt: &R,
     explaining: Explaining,
     arguments: &ServeArguments<'_>,
@@ -115,39 +116,71 @@ where
     let mut process = ProcessStatus::open(rt);
     let explaining = explaining.with_verbose(arguments.options.verbose);
     match ServeJob::of(rt.alloc(), explaining, arguments) {
-        Ok(job) => serve_watched(rt, job, &mut process),
+        Ok(job) => serve_watched(rt, job, arguments.until_eof, &mut process),
         Err(fault) => refused(rt, explaining, arguments, &fault),
     }
 }
 
-/// Serves in a thread of its own, and waits for its end or a signal.
-fn serve_watched<R: Print + Eprint + Files + AllocGlobal + ServeRuntime>(
+/// Serves in a thread of its own, and waits for its end, a signal, or the end of standard input where that is asked for.
+fn serve_watched<R: Input + Print + Eprint + Files + AllocGlobal + ServeRuntime>(
     rt: &R,
     job: ServeJob,
+    until_eof: bool,
     process: &mut ProcessStatus<R::File>,
 ) -> ExitCode
 where
     R::File: Send + 'static,
     R::Dir: Send + 'static,
 {
-    let Some((serving, shared)) = share(rt.alloc()) else {
+    let Ok(serving) = Arc::new(rt.alloc(), Serving::new()) else {
         return fail(rt, &ServeFault::OutOfMemory);
     };
-    if !start(rt, job, shared) {
-        return fail(rt, &ServeFault::SpawnRefused);
+    match start(rt, job, until_eof, &serving) {
+        Ok(()) => ExitCode::from(watch(rt, &serving, process)),
+        Err(fault) => fail(rt, &fault),
     }
-    ExitCode::from(watch(rt, &serving, process))
 }
 
-/// What the two threads share, for each of them. None if out of memory.
-fn share(alloc: Global) -> Option<(Arc<Serving, Global>, Arc<Serving, Global>)> {
-    let serving = Arc::new(alloc, Serving::new()).ok()?;
-    let shared = serving.clone().ok()?;
-    Some((serving, shared))
+/// Starts the thread that reads standard input, where it is asked for, and the one that serves.
+fn start<R: Input + Print + Eprint + Files + AllocGlobal + ServeRuntime>(
+    rt: &R,
+    job: ServeJob,
+    until_eof: bool,
+    serving: &Arc<Serving, Global>,
+) -> Result<(), ServeFault<'static>>
+where
+    R::File: Send + 'static,
+    R::Dir: Send + 'static,
+{
+    if until_eof {
+        let Ok(shared) = serving.clone() else {
+            return Err(ServeFault::OutOfMemory);
+        };
+        if !start_reading(rt, shared) {
+            return Err(ServeFault::SpawnRefused);
+        }
+    }
+    let Ok(shared) = serving.clone() else {
+        return Err(ServeFault::OutOfMemory);
+    };
+    if start_serving(rt, job, shared) {
+        Ok(())
+    } else {
+        Err(ServeFault::SpawnRefused)
+    }
+}
+
+/// Starts the thread that reads standard input. False if it can't be had.
+fn start_reading<R: Input + Eprint + ServeRuntime>(rt: &R, serving: Arc<Serving, Global>) -> bool {
+    let there = *rt;
+    let started = thread::spawn(rt, move || {
+        stop_at_end_of_input(&there, &serving.shutdown);
+    });
+    started.is_ok()
 }
 
 /// Starts the thread that serves. False if it can't be had.
-fn start<R: Print + Eprint + Files + AllocGlobal + ServeRuntime>(
+fn start_serving<R: Print + Eprint + Files + AllocGlobal + ServeRuntime>(
     rt: &R,
     job: ServeJob,
     serving: Arc<Serving, Global>,
@@ -177,7 +210,8 @@ fn refused<R: Eprint + AllocGlobal>(
     }
 }
 
-/// Waits for the end of serving. Told to end by a signal, it waits on only while that gets on, and the status is 0 then.
+/// Waits for the end of serving. Told to end, by a signal or by the end of standard input, it waits on only while that gets on, and the status is 0
+/// then.
 fn watch<R: Wait + Clock, F: Read + Seek + Drop>(
     rt: &R,
     serving: &Serving,
@@ -187,7 +221,7 @@ fn watch<R: Wait + Clock, F: Read + Seek + Drop>(
         if let Some(status) = serving.wait(rt) {
             return status;
         }
-        if process.tells_to_end() {
+        if process.tells_to_end() || serving.shutdown.stop.is_requested(rt) {
             break;
         }
     }
