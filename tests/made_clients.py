@@ -171,12 +171,14 @@ def rust_type(table, toxic):
     )
 
 
-def version_in(before, behind):
-    """The text of a file with the program's version between two others, where they stand first."""
+def version_behind(*places):
+    """The text of a file with the program's version behind each of these texts, up to the next quotation mark or tag."""
 
     def made(table, text):
         version = table.version.split(" ")[0]
-        return re.sub(f"({re.escape(before)})[^\"<]*({re.escape(behind)})", lambda found: found[1] + version + found[2], text, count=1)
+        for place in places:
+            text = re.sub(f"({re.escape(place)})[^\"<]*", lambda found: found[1] + version, text, count=1)
+        return text
 
     return made
 
@@ -190,5 +192,6 @@ CLIENTS = {
 }
 # Files with the version of their package, which is the program's.
 VERSIONS = {
-    "clients/go/program.go": version_in('const Version = "', '"'),
+    "clients/go/program.go": version_behind('const Version = "'),
+    "clients/js/package.json": version_behind('"version": "', '-x64": "', '-arm64": "'),
 }

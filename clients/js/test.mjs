@@ -1,0 +1,4 @@
+// Glue for node:test, for ECMAScript modules.
+import test from "./test.js";
+
+export const { runAgain, toxiFor } = test;
