@@ -110,7 +110,7 @@ def references(names: List[str]) -> List[str]:
     for place, name in enumerate(names):
         page_name, _, number = name.partition("(")
         lines.append(f".BR {plain(page_name)} ({number}{',' if place < len(names) - 1 else ''}")
-    return [*lines, ".PP", *filled("toxi-find and toxi-sweep, the commands of the Python package, have help: toxi-find --help, toxi-sweep --help.")]
+    return [*lines, ".PP", *filled("toxi-find, toxi-sweep and toxi-merge, the commands of the Python package, have help: toxi-find --help and so on.")]
 
 
 def main() -> None:

@@ -2,14 +2,16 @@
 import bisect
 import itertools
 import random
+from collections import Counter
 from dataclasses import dataclass
-from typing import Iterable, Iterator, List, Sequence, Set, Tuple
+from typing import Iterable, Iterator, List, Mapping, Sequence, Set, Tuple
 
 from ._search.conversation import TimeLimit
 from ._search.phases import LATE_PARTS, late_point
+from ._search.shards import Shard
 from .conversations import StreamBytes
 from .errors import ToxiError
-from .fault_points import ALL, ENDINGS, FAULTS, MILLIS, FaultPoint, delay_of
+from .fault_points import ALL, ENDINGS, FAULTS, MILLIS, FaultLineKey, FaultPoint, delay_of
 
 # The heads of messages end within so many bytes of a stream. Half of the runs that aren't near a boundary are there.
 HEAD = 512
@@ -17,16 +19,29 @@ HEAD = 512
 
 @dataclass(frozen=True)
 class ChosenPoints:
-    """The points that are run, and how many there are without a bound. The `first` of them are those at boundaries and of delays."""
+    """The points that are run, and how many there are of each line without a bound. The `first` of them are those at boundaries and of delays."""
 
     points: Sequence[FaultPoint]
-    possible: int
+    possible_of: Mapping[FaultLineKey, int]
     first: int = 0
+
+    @property
+    def possible(self) -> int:
+        """How many points there are without a bound."""
+        return sum(self.possible_of.values())
 
     @property
     def left_out(self) -> int:
         """How many points aren't run."""
         return self.possible - len(self.points)
+
+    def part(self, shard: Shard) -> "ChosenPoints":
+        """Those of a shard: its lines are whole."""
+        sizes = Counter(point.line for point in self.points)
+        own = set(shard.lines({line: sizes[line] for line in self.possible_of}))
+        points = [point for point in self.points if point.line in own]
+        first = sum(point.line in own for point in self.points[: self.first])
+        return ChosenPoints(points, {line: possible for line, possible in self.possible_of.items() if line in own}, first)
 
 
 @dataclass(frozen=True)
@@ -39,6 +54,11 @@ class Span:
     boundaries: Set[int]
     near: Set[int]
     within: float
+
+    @property
+    def line(self) -> FaultLineKey:
+        """Its line of the table."""
+        return (*self.stream.key, self.fault)
 
     def point(self, offset: int) -> FaultPoint:
         """The fault at an offset."""
@@ -77,7 +97,9 @@ def chosen_points(
     heads = [(span, offset) for span in whole for offset in span.offsets[:HEAD] if offset not in span.near]
     chosen += _some(heads, (most - len(chosen)) // 2, draw)
     chosen += _drawn(whole, most - len(chosen), set(chosen), draw)
-    return ChosenPoints(chosen, sum(len(span.offsets if span in whole else span.near) for span in spans) + len(extra), first)
+    possible = Counter({span.line: len(span.offsets if span in whole else span.near) for span in spans})
+    possible.update(point.line for point in extra)
+    return ChosenPoints(chosen, possible, first)
 
 
 def _require_known(faults: Sequence[str]) -> None:
@@ -130,7 +152,7 @@ def repeated_points(streams: Iterable[StreamBytes], points: Iterable[FaultPoint]
             made = ", ".join(f"{proxy} {number}" for proxy, number in dict.fromkeys(key[:2] for key in by_key))
             raise ToxiError(f"the client makes no connection of {point}, but {made}")
         found.append(_repeated(by_key[point.key], point, within))
-    return ChosenPoints(found, len(found), len(found))
+    return ChosenPoints(found, Counter(point.line for point in found), len(found))
 
 
 def _repeated(stream: StreamBytes, point: FaultPoint, within: float) -> FaultPoint:

@@ -3,7 +3,7 @@ import itertools
 import re
 from dataclasses import dataclass, replace
 from pathlib import Path
-from typing import Dict, FrozenSet, Iterable, List, NamedTuple, Optional, Tuple
+from typing import Any, Dict, FrozenSet, Iterable, List, Mapping, NamedTuple, Optional, Tuple
 
 from .commands import ERRORS
 from .lines import Link
@@ -60,6 +60,18 @@ class StreamBytes:
     def of_proxy(self, proxy: str) -> "StreamBytes":
         """The same of a proxy of another name."""
         return replace(self, proxy=proxy)
+
+    def members(self) -> Dict[str, object]:
+        """As a JSON object, with its boundaries."""
+        times = {"end": self.end, "pieces": list(self.pieces), "instants": list(self.instants), "ended": self.ended, "boundaries": self.boundaries}
+        return {"proxy": self.proxy, "link": self.number, "stream": self.stream, "bytes": self.bytes, **times}
+
+    @classmethod
+    def of_members(cls, members: Mapping[str, Any]) -> "StreamBytes":
+        """Of a JSON object. Raises `KeyError` or `TypeError` for another one."""
+        place: StreamKey = members["proxy"], int(members["link"]), members["stream"]
+        pieces, instants = (tuple(map(int, members[name])) for name in ("pieces", "instants"))
+        return cls(*place, int(members["bytes"]), members["end"], pieces, instants, members["ended"], frozenset(members["boundaries"]))
 
 
 def streams_of(links: Iterable[Link], logs: Iterable[Path]) -> List[StreamBytes]:

@@ -20,6 +20,9 @@ DELAYED_PART = 0.1
 ALL = 0
 ALL_WORD = "all"
 
+# The proxy, the number of the connection, the stream and the fault of a line of a sweep's table.
+FaultLineKey = Tuple[str, int, str, str]
+
 # A name may have spaces.
 POINT = re.compile(rf"(.*) (\d+|{ALL_WORD}) ({'|'.join(STREAMS)}) (\d+) ({'|'.join(FAULTS)})(?: (\d+) ms)?", re.S)
 
@@ -65,6 +68,11 @@ class FaultPoint:
         return self.proxy, self.number or 1, self.stream
 
     @property
+    def line(self) -> FaultLineKey:
+        """What the points of a line of a sweep's table share: the proxy, the connection, the stream and the fault."""
+        return self.proxy, self.number, self.stream, self.fault
+
+    @property
     def toxic(self) -> Toxic:
         """The toxic that does it. One behind 0 bytes works from the start."""
         if self.fault == "closed":
@@ -93,4 +101,4 @@ def delay_of(fault: str, size: int, stream: StreamBytes, within: float) -> int:
     return max(MILLIS, int(budget / max(len(stream.pieces), 1))) if fault == "slow" else 0
 
 
-__all__ = ["ALL", "DELAYS", "ENDINGS", "FAULTS", "MILLIS", "FaultPoint", "delay_of"]
+__all__ = ["ALL", "DELAYS", "ENDINGS", "FAULTS", "MILLIS", "FaultLineKey", "FaultPoint", "delay_of"]

@@ -5,6 +5,7 @@ from functools import partial
 from pathlib import Path
 from typing import List, Optional
 
+from ._search.about import SEARCH
 from ._search.drawing import DrawnFaults
 from ._search.engine import Engine
 from ._search.memory import Memory
@@ -14,13 +15,14 @@ from ._search.searching import SearchLimits
 from ._search.words import SEARCHED
 from .base import STREAMS
 from .batches import ClientSetup
-from .client_arguments import client_parser, judge_maker, positive, read_client_arguments, write_result
+from .client_arguments import about_of, client_parser, given_conversation, judge_maker, keep_conversation, positive, read_client_arguments
 from .client_command import FOUND, NOTHING, REFUSED, STOPPED, take_signals
 from .client_source import CommandSource
 from .errors import ToxiError
 from .find_progress import ProgressLine
 from .shell_client import ShellClient, before_of
 from .smallness import KINDS
+from .written_results import write_results
 
 ABOUT = """Runs a command under faults until some break it, shrinks each to the smallest that still does, and tells how to see it again: faults at the
 boundaries of its conversation, late answers, outages, and drawn ones.
@@ -31,6 +33,8 @@ a fault its status must be 0. Under a fault 0 is right too, --allow-status names
 
 The status is 0 where nothing was found, 1 where something was, 2 where the search can't be made, and 130 where it was stopped before."""
 DEFAULT_FOLDER = "toxi-found"
+# The options of this command alone that decide what is tried.
+OPTIONS = ("runs", "stream", "kinds", "trickle")
 NAME = "toxi-find"
 
 
@@ -40,8 +44,10 @@ def main(words: Optional[List[str]] = None) -> int:
     take_signals()
     line = ProgressLine(sys.stderr)
     try:
+        if arguments.keep_conversation is not None:
+            return _told(keep_conversation(_setup(arguments, command), judge_maker(arguments, command), arguments.keep_conversation), NOTHING, line)
         result = _search(arguments, command, line)
-        write_result(result, arguments)
+        write_results([result], arguments.json, arguments.page, arguments.junit)
     except KeyboardInterrupt:
         return _told(f"stopped, nothing found by {line.runs} runs", STOPPED, line)
     except (ToxiError, ModuleNotFoundError, ValueError, OSError) as error:
@@ -63,16 +69,20 @@ def _parser() -> argparse.ArgumentParser:
     parser.add_argument("--stream", choices=STREAMS, help="faults of this stream alone")
     parser.add_argument("--kind", dest="kinds", action="append", choices=KINDS, help="toxics of this type alone. Repeatable")
     parser.add_argument("--remember", metavar="DIR", type=Path, help="write each fault into DIR too, and run first what --name has there")
-    parser.add_argument("--name", metavar="NAME", help="the client's name in DIR")
     parser.add_argument("--trickle", action="store_true", help="draws streams that are slower than --within allows, too")
     return parser
 
 
+def _setup(arguments: argparse.Namespace, command: List[str]) -> ClientSetup:
+    options = {"seed": arguments.seed, "program": arguments.program}
+    return ClientSetup(arguments.upstreams, ShellClient(tuple(command)), arguments.within, before_of(arguments.before), arguments.jobs, options)
+
+
 def _search(arguments: argparse.Namespace, command: List[str], line: ProgressLine) -> SearchResult:
     kinds, words = (None if given is None else tuple(given) for given in (arguments.kinds, arguments.faults))
-    options = {"seed": arguments.seed, "program": arguments.program}
+    given = given_conversation(arguments)
     return Engine(
-        ClientSetup(arguments.upstreams, ShellClient(tuple(command)), arguments.within, before_of(arguments.before), arguments.jobs, options),
+        _setup(arguments, command),
         judge_maker(arguments, command),
         CommandSource(command, arguments.allowed_statuses, arguments.before, arguments.check),
         arguments.seed,
@@ -81,7 +91,9 @@ def _search(arguments: argparse.Namespace, command: List[str], line: ProgressLin
         SearchLimits(arguments.runs, arguments.budget, arguments.max_found),
         partial(_folder, arguments.folder),
         line,
-        Memory.of(arguments.remember, arguments.name, arguments.upstreams),
+        None if arguments.remember is None else Memory.of(arguments.remember, arguments.name, arguments.upstreams),
+        about=about_of(SEARCH, arguments, command, OPTIONS, given),
+        given=given,
     ).run()
 
 

@@ -38,7 +38,8 @@ class Found:
     line of a command's standard error. `hint` is the class of a library's exception, which `allowed` may name. `refused` are the proxies that refused
     connects. `folder` has
     `proxies.json`, `script.toml`, `seed`, `logs`, `report.html`, and `again.sh` and `test_found.py`, which run it again. `runs` and `seconds` are those
-    of the search until then. `remembered` is its file where the search remembers what it finds.
+    of the search until then. `remembered` is its file where the search remembers what it finds. `places` are its faults in words, each with its stream and the
+    number of its connection, or 0 for all.
     """
 
     script: str
@@ -55,6 +56,7 @@ class Found:
     hint: Optional[str] = None
     refused: Tuple[str, ...] = ()
     remembered: Optional[Path] = None
+    places: Tuple[Tuple[str, str, int], ...] = ()
 
     @property
     def command(self) -> str:

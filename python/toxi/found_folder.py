@@ -69,6 +69,7 @@ class FoundFolder:
             where=failure.where,
             hint=allowed_hint(failure),
             refused=tuple(sorted(failure.case.refused)),
+            places=tuple(failure.case.places),
         )
         self._write_files(found)
         return found

@@ -6,10 +6,11 @@ from argparse import ArgumentTypeError, Namespace
 from pathlib import Path
 from typing import List, Optional, Sequence
 
+from ._search.about import SWEEP
 from ._search.conversation import Conversation
 from .batches import ClientSetup
 from .chosen_points import ChosenPoints, repeated_points
-from .client_arguments import client_parser, judge_maker, positive, read_client_arguments, write_result
+from .client_arguments import about_of, client_parser, given_conversation, judge_maker, keep_conversation, positive, read_client_arguments
 from .client_command import FOUND, NOTHING, REFUSED, STOPPED, take_signals
 from .errors import ToxiError
 from .fault_points import DELAYS, FAULTS, FaultPoint
@@ -18,6 +19,7 @@ from .shell_client import ShellClient, before_of
 from .sweep_table import Sweep
 from .sweeping import MOST, SWEPT, Sweeping, chooser, progress_text
 from .terminal_line import TerminalLine
+from .written_results import write_results
 
 ABOUT = """Runs a command behind proxies that end its conversation behind each byte of each stream of each connection, and prints what it came to.
 
@@ -27,8 +29,10 @@ The command finds the address of each proxy in TOXI_<NAME>: the name in upper ca
 The status is 0 where nothing is to be mended, 1 where something is, 2 where the sweep can't be made, and 130 after Ctrl-C. The last line
 is the command that runs the first of what is to be mended again, or says that there is nothing."""
 NAME = "toxi-sweep"
-# The options that name files of the table.
-FILES = ("--json", "--page", "--folder")
+# The options of this command alone that decide what is run.
+OPTIONS = ("most", "every_silence", "only")
+# The options that name files of the table, and its part: the command that runs one point again has none of them.
+OF_TABLE = ("--json", "--page", "--junit", "--folder", "--shard")
 
 
 def read_arguments(words: Sequence[str]) -> Namespace:
@@ -40,6 +44,8 @@ def read_arguments(words: Sequence[str]) -> Namespace:
     about = "run this point alone, such as 'shop 1 downstream 17 closed', and show the command's output. Repeatable"
     parser.add_argument("--only", metavar="POINT", action="append", type=_point, default=[], help=about)
     arguments, command = read_client_arguments(parser, words)
+    if arguments.only and not arguments.shard.is_whole:
+        parser.error("--only runs its points, and no shard of them")
     arguments.command = command
     return arguments
 
@@ -51,11 +57,15 @@ def _point(text: str) -> FaultPoint:
         raise ArgumentTypeError(str(error)) from None
 
 
-def sweeping_of(arguments: Namespace) -> Sweeping:
-    """The sweep that the arguments ask for."""
+def _setup(arguments: Namespace) -> ClientSetup:
     client = ShellClient(arguments.command, None) if arguments.only else ShellClient(arguments.command)
     options = {"seed": arguments.seed, "program": arguments.program}
-    setup = ClientSetup(arguments.upstreams, client, arguments.within, before_of(arguments.before), arguments.jobs, options)
+    return ClientSetup(arguments.upstreams, client, arguments.within, before_of(arguments.before), arguments.jobs, options)
+
+
+def sweeping_of(arguments: Namespace) -> Sweeping:
+    """The sweep that the arguments ask for."""
+    given = given_conversation(arguments)
     faults = tuple(arguments.faults or SWEPT)
     choose = chooser(faults, arguments.most, arguments.every_silence, arguments.within, arguments.seed, arguments.connections)
     if arguments.only:
@@ -63,7 +73,7 @@ def sweeping_of(arguments: Namespace) -> Sweeping:
     measures = not arguments.only and any(fault in DELAYS for fault in faults)
     # A point that is run alone shows its output once.
     return Sweeping(
-        setup,
+        _setup(arguments),
         choose,
         judge_maker(arguments, arguments.command),
         repeats=not arguments.only,
@@ -72,6 +82,8 @@ def sweeping_of(arguments: Namespace) -> Sweeping:
         most=arguments.most,
         measures=measures,
         every_silence=arguments.every_silence,
+        about=about_of(SWEEP, arguments, arguments.command, OPTIONS, given),
+        given=given,
     )
 
 
@@ -81,7 +93,7 @@ def _only(arguments: Namespace, known: Conversation) -> ChosenPoints:
 
 def write_files(sweep: Sweep, arguments: Namespace) -> None:
     """Writes the table where it is asked for."""
-    write_result(sweep, arguments)
+    write_results([sweep], arguments.json, arguments.page, arguments.junit)
     if arguments.folder is not None:
         KeptSweep(sweep, arguments.folder).write_files()
 
@@ -94,17 +106,17 @@ def last_line(words: Sequence[str], arguments: Namespace, sweep: Sweep) -> str:
     program = [NAME] if Path(sys.argv[0]).name == NAME else [sys.executable, "-m", "toxi.sweep_command"]
     if arguments.only:
         return shlex.join([*program, *words])
-    return shlex.join([*program, "--only", str(sweep.failures[0].first.point), *_without_files(words)])
+    return shlex.join([*program, "--only", str(sweep.failures[0].first.point), *_without_table(words)])
 
 
-def _without_files(words: Sequence[str]) -> List[str]:
-    """The words without the files of the table, which a run of one point would replace."""
+def _without_table(words: Sequence[str]) -> List[str]:
+    """The words without the files of the table, which a run of one point would replace, and without its shard."""
     mark = words.index("--")
     options, kept = iter(words[:mark]), []
     for word in options:
-        if word in FILES:
+        if word in OF_TABLE:
             next(options)
-        elif word.partition("=")[0] not in FILES:
+        elif word.partition("=")[0] not in OF_TABLE:
             kept.append(word)
     return [*kept, *words[mark:]]
 
@@ -112,6 +124,9 @@ def _without_files(words: Sequence[str]) -> List[str]:
 def run(words: Sequence[str]) -> int:
     """Sweeps a command, prints its table, and returns the status."""
     arguments = read_arguments(words)
+    if arguments.keep_conversation is not None:
+        print(keep_conversation(_setup(arguments), judge_maker(arguments, arguments.command), arguments.keep_conversation))
+        return NOTHING
     sweeping, line, interrupted = sweeping_of(arguments), TerminalLine(sys.stderr), False
     try:
         sweeping.run(lambda sweeping: line.show(progress_text(sweeping)))

@@ -41,18 +41,13 @@ class SweptRun:
         return self.verdict.text if self.reached or self.verdict.is_fault else NOT_REACHED
 
     @property
-    def _row_key(self) -> Tuple[object, ...]:
+    def row_key(self) -> Tuple[object, ...]:
         """What neighbours of one row have in common. Where the point wasn't reached, it isn't told which exception was allowed."""
-        return (*_line_of(self.point), self.outcome, self.verdict.is_fault, self.reached, self.other_runs)
+        return (*self.point.line, self.outcome, self.verdict.is_fault, self.reached, self.other_runs)
 
 
 # The old name.
 SweptPoint = SweptRun
-
-
-def _line_of(point: FaultPoint) -> Tuple[str, int, str, str]:
-    """What the points of a line of the table share: the proxy, the connection, the stream and the fault."""
-    return point.proxy, point.number, point.stream, point.fault
 
 
 @dataclass(frozen=True, repr=False)
@@ -145,9 +140,9 @@ def rows_of(swept: Iterable[SweptRun], streams: Iterable[StreamBytes]) -> List[S
     """The rows of what was swept: wrong answers and hangs first, then in the order of connections, streams, faults and offsets."""
     carried = {stream.key: stream.bytes for stream in streams}
     found: List[SweepRow] = []
-    for _, line in itertools.groupby(_ordered(swept), lambda each: _line_of(each.point)):
+    for _, line in itertools.groupby(ordered(swept), lambda each: each.point.line):
         points = list(line)
-        rows = [_row(list(same), carried) for _, same in itertools.groupby(points, lambda each: each._row_key)]
+        rows = [_row(list(same), carried) for _, same in itertools.groupby(points, lambda each: each.row_key)]
         found += _raced(rows, len(points)) if points[0].point.fault == "sliced" and len(rows) > MAX_RACED else rows
     return sorted(found, key=_severity)
 
@@ -165,8 +160,8 @@ def _raced(rows: Sequence[SweepRow], of: int) -> List[SweepRow]:
 def unbroken_rows_of(swept: Iterable[SweptRun], streams: Iterable[StreamBytes]) -> List[SweepRow]:
     """As `rows_of`, but each offset of a row was run, and what is worst comes last."""
     carried = {stream.key: stream.bytes for stream in streams}
-    numbered = enumerate(_ordered(swept))
-    grouped = itertools.groupby(numbered, lambda each: (*each[1]._row_key, each[1].point.offset - each[0]))
+    numbered = enumerate(ordered(swept))
+    grouped = itertools.groupby(numbered, lambda each: (*each[1].row_key, each[1].point.offset - each[0]))
     return sorted((_row([each for _, each in same], carried) for _, same in grouped), key=_severity, reverse=True)
 
 
@@ -176,7 +171,8 @@ def _row(same: Sequence[SweptRun], carried: Dict[StreamKey, int]) -> SweepRow:
     return SweepRow(same[0], carried[point.key] if point.fault == "slow" else last.offset, len(same), (delays[0], delays[-1]))
 
 
-def _ordered(swept: Iterable[SweptRun]) -> List[SweptRun]:
+def ordered(swept: Iterable[SweptRun]) -> List[SweptRun]:
+    """In the order of connections, streams, faults and offsets. Those of all connections come last."""
     return sorted(swept, key=lambda each: _place(each.point))
 
 

@@ -3,11 +3,12 @@ import json
 from dataclasses import dataclass
 from typing import Dict, List, Optional, Sequence, Tuple, Union
 
+from ._search.about import About
 from .conversations import StreamBytes
-from .fault_points import FaultPoint
 from .lines import printed
 from .outcomes import Kind
 from .sweep_page import page_text
+from .sweep_points import swept_members
 from .sweep_rows import SweepRow, SweptRun, rows_of
 
 # Faults that end the conversation at once, and how many rows of hangs there may be under them.
@@ -20,7 +21,8 @@ class Sweep:
     """What a sweep has found. `str()` is its text, with a line for each row.
 
     `streams` are those of a run without a fault. `possible` counts the points that there are, and `chosen` those that were to be run. `seconds` is the time
-    that it took. `ended` says why it ended before all of these were run, or is None. `within` is the client's limit in seconds.
+    that it took. `ended` says why it ended before all of these were run, or is None. `within` is the client's limit in seconds. `about` says what it is of,
+    for `toxi-merge`.
     """
 
     streams: Sequence[StreamBytes]
@@ -30,6 +32,7 @@ class Sweep:
     seconds: float
     ended: Optional[str] = None
     within: Optional[float] = None
+    about: Optional[About] = None
 
     @property
     def rows(self) -> List[SweepRow]:
@@ -89,19 +92,25 @@ class Sweep:
         hangs = [row for row in self.rows if row.outcome == "hang" and row.fault in AT_ONCE]
         return hangs if len(hangs) > MAX_HANGS else []
 
-    def json_text(self) -> str:
-        """The table as JSON."""
+    def members(self) -> Dict[str, object]:
+        """The table as a JSON object."""
+        about = None if self.about is None else self.about.members()
         streams = [{**_stream_members(stream), "bytes": stream.bytes, "boundaries": stream.boundaries} for stream in self.streams]
         rows = [{**_stream_members(row), **_row_members(row)} for row in self.rows]
-        table = {"streams": streams, "rows": rows, "runs": len(self.swept), "chosen": self.chosen, "possible": self.possible}
-        return json.dumps({**table, "seconds": round(self.seconds, 3), "ended": self.ended}, indent=1) + "\n"
+        table = {"about": about, "streams": streams, "rows": rows, "runs": len(self.swept), "chosen": self.chosen, "possible": self.possible}
+        whole = {"recorded": [stream.members() for stream in self.streams], "points": swept_members(self.swept)}
+        return {**table, "seconds": round(self.seconds, 3), "ended": self.ended, **whole}
+
+    def json_text(self) -> str:
+        """The table as JSON."""
+        return json.dumps(self.members(), indent=1) + "\n"
 
     def page_text(self) -> str:
         """The table as one HTML page, with a strip for each stream and fault."""
         return page_text(self.streams, self.swept, [*self.summary, *self.left_out])
 
 
-def _stream_members(part: Union[StreamBytes, FaultPoint, SweepRow]) -> Dict[str, object]:
+def _stream_members(part: Union[StreamBytes, SweepRow]) -> Dict[str, object]:
     return {"proxy": part.proxy, "link": part.number, "stream": part.stream}
 
 

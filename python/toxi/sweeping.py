@@ -8,10 +8,13 @@ from collections import Counter
 from dataclasses import replace
 from typing import Callable, Dict, Iterable, List, Mapping, Optional, Sequence, Set, Union
 
+from ._search.about import About
 from ._search.cases import Case
 from ._search.conversation import Conversation, measuring_cases
+from ._search.conversation_file import KeptConversation
 from ._search.edges import between, in_order, late_between
 from ._search.running import Cases, MakeJudge, Over, Runner
+from ._search.shards import Shard
 from .base import StrPath
 from .batches import BatchRun, ClientSetup
 from .chosen_points import ChosenPoints, chosen_points
@@ -104,7 +107,8 @@ class Sweeping:
     """A sweep that runs. `sweep` is what it has so far.
 
     `choose` gives the points of a client's conversation, and `judge_maker` the judge of its outcomes there. Where it `repeats`, points that stand alone are run
-    again at the end. `most` bounds the runs, `budget` the seconds, and `max_found` the points that fail.
+    again at the end. `most` bounds the runs, `budget` the seconds, and `max_found` the points that fail. `about` says what the sweep is of, with the shard,
+    whose lines it runs. The shards of one sweep need the conversation that is `given` to all.
     """
 
     def __init__(
@@ -118,13 +122,16 @@ class Sweeping:
         most: int = MOST,
         measures: bool = True,
         every_silence: bool = False,
+        about: Optional[About] = None,
+        given: Optional[KeptConversation] = None,
     ) -> None:
+        self._about, self._given = about, given
         self._choose, self._repeats, self._max_found, self._most, self._measures = choose, repeats, max_found, most, measures
         self._every_silence = every_silence
         self._begun = time.monotonic()
         self._runner = Runner(setup, judge_maker, math.inf if budget is None else self._begun + budget)
         self._known = Conversation(())
-        self._chosen = ChosenPoints((), 0)
+        self._chosen = ChosenPoints((), {})
         # Points at edges that weren't chosen, and those of them that aren't counted as possible.
         self._more = self._beyond = 0
         self._swept: Dict[FaultPoint, SweptRun] = {}
@@ -143,12 +150,15 @@ class Sweeping:
         """What was found so far."""
         possible = self._chosen.possible + self._beyond
         seconds = time.monotonic() - self._begun
-        return Sweep(self._known.streams, list(self._swept.values()), self.chosen, possible, seconds, self._ended, self._runner.setup.within)
+        swept = list(self._swept.values())
+        return Sweep(self._known.streams, swept, self.chosen, possible, seconds, self._ended, self._runner.setup.within, self._about)
 
     def run(self, progress: Progress = lambda sweeping: None) -> None:
         """Runs the chosen points. `progress` is called behind each run, by the thread that ran it."""
         __tracebackhide__ = True
-        self._known = self._runner.learn(1.0)
+        if self._given is not None:
+            self._given.require_upstreams(self._runner.setup.upstreams)
+        self._known = self._runner.learn(1.0, None if self._given is None else self._given.conversation)
         self._runner.watch = lambda: progress(self)
         try:
             self._run_all()
@@ -158,11 +168,14 @@ class Sweeping:
 
     def _run_all(self) -> None:
         __tracebackhide__ = True
-        if self._measures:
+        if self._measures and self._given is None:
             self._known = self._runner.measure(self._known, Cases(measuring_cases(self._known.streams)), lambda run, verdict: True, lambda case: True)
         self._runner.count = 0
-        self._chosen = self._choose(self._known)
+        whole, shard = self._choose(self._known), Shard() if self._about is None else self._about.shard
+        self._chosen = whole.part(shard)
         points = self._chosen.points
+        # Of the runs that are left for edges each shard has its part.
+        self._most = len(points) + max(0, self._most - len(whole.points)) // shard.of
         self._run(points[: self._chosen.first])
         if self._repeats:
             self._run_edges()

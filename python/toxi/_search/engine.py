@@ -10,6 +10,8 @@ from ..client_source import ClientSource
 from ..errors import ToxiError, ToxiWarning
 from ..found import Found
 from ..found_folder import FoundFolder
+from .about import About
+from .conversation_file import KeptConversation
 from .kept_runs import KeptRuns
 from .drawing import DrawnFaults
 from .failures import Failure
@@ -18,12 +20,13 @@ from .pool import Pool
 from .result import Flaky, SearchResult, Tried
 from .searching import Searching, SearchLimits, Smallest, Watch
 from .running import MakeJudge
+from .shards import Shard
 
 
 @dataclass
 class Engine:
     """What a search needs. `folder` gives the folder of what is found by its number, from 1, or None for a new one. `memory` has what was found
-    before."""
+    before. `about` says what the result is of, with the shard. A shard needs the conversation that is `given` to all."""
 
     setup: ClientSetup
     make_judge: MakeJudge
@@ -36,6 +39,8 @@ class Engine:
     watch: Optional[Watch] = None
     memory: Optional[Memory] = None
     pool: Optional[Pool] = None
+    about: Optional[About] = None
+    given: Optional[KeptConversation] = None
 
     def run(self) -> SearchResult:
         """Searches. Raises `ToxiError` where the client isn't right without a fault, and `ModuleNotFoundError` without Hypothesis, before anything runs."""
@@ -54,6 +59,8 @@ class Engine:
             self.watch or (lambda progress: None),
             remembered=remembered,
             pool=self.pool,
+            given=self.given,
+            shard=Shard() if self.about is None else self.about.shard,
         )
         try:
             ended_by = searching.run()
@@ -74,6 +81,7 @@ class Engine:
             searching.runner.count,
             time.monotonic() - searching.begun,
             () if self.memory is None else self.memory.states(searching.remembered_verdicts),
+            self.about,
         )
 
     def _tell_found(self, error: BaseException) -> None:
@@ -83,6 +91,8 @@ class Engine:
             warnings.warn(f"{type(error).__name__} has ended the search, which had found{commands}", ToxiWarning, stacklevel=4)
 
     def _require(self) -> None:
+        if self.given is not None:
+            self.given.require_upstreams(self.setup.upstreams)
         # None is to mean that no fault was found, and not that none was tried.
         if self.limits.runs < 1 or not self.limits.budget > 0 or self.limits.max_found < 1:
             raise ValueError(f"a search has at least one run and some seconds, not runs={self.limits.runs!r} and budget={self.limits.budget!r}")

@@ -4,6 +4,9 @@ from typing import Dict, Iterable, List, Optional, Set
 from .cases import Case, Place
 from .failures import Failure, FailureKey
 
+# A place that has made the client hang so often isn't tried again.
+HANGS_OF_PLACE = 2
+
 
 class Known:
     """What is known while a search runs.

@@ -1,13 +1,14 @@
 """`SearchResult`: what a search has found, what was flaky, and what was tried."""
 import json
 from dataclasses import dataclass
-from html import escape
-from typing import Dict, List, Tuple
+from typing import Dict, Optional, Tuple
 
 from ..found import Found
+from .about import About
 from .memory import Remembered
 
-ENDINGS_OF_SEARCH = ("done", "budget", "interrupted", "max_found", "client_stuck")
+# What ends a search, and the later one of two shards is told of both.
+ENDINGS_OF_SEARCH = ("done", "max_found", "budget", "client_stuck", "interrupted")
 
 
 @dataclass(frozen=True)
@@ -39,7 +40,7 @@ class SearchResult:
     `found` are the different faults, each with its folder, and `flaky` what came but didn't come again. `tried` counts the runs under each fault.
     `ended_by` is `done`, `budget`, `interrupted`, `max_found` or `client_stuck`. `phases` are those that were done: `boundaries`, `late answers`,
     `outages`, `drawn`. `limits` are the client's time limits, as silence has shown them. `runs` and `seconds` are those of the whole search.
-    `remembered` are the files of what earlier searches have found, and what became of each.
+    `remembered` are the files of what earlier searches have found, and what became of each. `about` says what it is of, for `toxi-merge`.
     """
 
     found: Tuple[Found, ...]
@@ -51,6 +52,7 @@ class SearchResult:
     runs: int
     seconds: float
     remembered: Tuple[Remembered, ...] = ()
+    about: Optional[About] = None
 
     @property
     def first_phase_done(self) -> bool:
@@ -86,9 +88,10 @@ class SearchResult:
     def __repr__(self) -> str:
         return f"<SearchResult: {self.summary}>"
 
-    def json_text(self) -> str:
-        """All of it as JSON."""
-        members: Dict[str, object] = {
+    def members(self) -> Dict[str, object]:
+        """All of it as a JSON object."""
+        return {
+            "about": None if self.about is None else self.about.members(),
             "found": [_found_members(found) for found in self.found],
             "flaky": [vars(each) for each in self.flaky],
             "tried": [vars(each) for each in self.tried],
@@ -99,30 +102,20 @@ class SearchResult:
             "seconds": round(self.seconds, 3),
             "remembered": [{"file": str(each.file), "kind": each.kind, "state": each.state} for each in self.remembered],
         }
-        return json.dumps(members, indent=1) + "\n"
+
+    def json_text(self) -> str:
+        """All of it as JSON."""
+        return json.dumps(self.members(), indent=1) + "\n"
 
     def page_text(self) -> str:
         """All of it as one HTML page without a script."""
-        found = [f"<h2>{escape(each.kind)} {escape(each.times)}</h2><pre>{escape(str(each))}</pre>" for each in self.found]
-        flaky = [f"<h2>Flaky: {escape(each.kind)}</h2><pre>{escape(each.script)}</pre>" for each in self.flaky]
-        rows = "".join(_row("td", [each.fault, each.stream, each.connection, str(each.runs), str(each.reached)]) for each in self.tried)
-        head = _row("th", ["Fault", "Stream", "Connection", "Runs", "Reached"])
-        limits = "".join(f"<li>{escape(limit)}</li>" for limit in self.limits)
-        known = f"<h2>Remembered</h2><ul>{''.join(f'<li>{escape(str(each))}</li>' for each in self.remembered)}</ul>" if self.remembered else ""
-        body = [f"<p>{escape(self.summary)}</p>", *found, known, *flaky, f"<h2>Time limits</h2><ul>{limits}</ul>", f"<h2>Tried</h2><table>{head}{rows}</table>"]
-        return "\n".join([PAGE_HEAD, *body, "</body></html>", ""])
+        from ..search_page import page_text
 
-
-PAGE_HEAD = """<!DOCTYPE html>
-<html lang="en"><head><meta charset="utf-8"/><title>Toxi search</title>
-<style>:root{color-scheme:light dark}body{font:16px/1.5 system-ui,sans-serif;max-width:1100px;margin:0 auto;padding:16px}
-pre{overflow-x:auto}td,th{padding:2px 12px 2px 0;text-align:left}</style></head><body><h1>Toxi search</h1>"""
-
-
-def _row(cell: str, texts: List[str]) -> str:
-    return f"<tr>{''.join(f'<{cell}>{escape(text)}</{cell}>' for text in texts)}</tr>"
+        return page_text(self)
 
 
 def _found_members(found: Found) -> Dict[str, object]:
-    names = ("kind", "detail", "where", "hint", "script", "failed", "repeated", "seed", "command")
-    return {**{name: getattr(found, name) for name in names}, "folder": str(found.folder), "refused": list(found.refused)}
+    names = ("kind", "detail", "where", "hint", "script", "failed", "repeated", "seed", "runs", "command")
+    files = {"folder": str(found.folder), "remembered": None if found.remembered is None else str(found.remembered)}
+    lists = {"refused": list(found.refused), "places": [list(place) for place in found.places], "connections": [str(met) for met in found.connections]}
+    return {**{name: getattr(found, name) for name in names}, "seconds": round(found.seconds, 3), **files, **lists}

@@ -88,8 +88,11 @@ class Runner:
     judge: Judge = field(init=False)
     _recorded: Set[StreamKey] = field(default_factory=set)
 
-    def learn(self, slowest_share: float) -> Conversation:
-        """Runs the client twice without a fault. Raises `ToxiError` where it isn't right, takes more than a share of its limit, or makes no connection."""
+    def learn(self, slowest_share: float, given: Optional[Conversation] = None) -> Conversation:
+        """Runs the client twice without a fault, and gives its conversation, or the one that is given.
+
+        Raises `ToxiError` where it isn't right, takes more than a share of its limit, or makes no connection.
+        """
         __tracebackhide__ = True
         runs = self._unfaulted()
         outcomes = [run.outcome for run in runs if run.outcome is not None]
@@ -103,16 +106,14 @@ class Runner:
             raise ToxiError(f"the client takes {slowest:.2f} s without a fault, so `within` must be above {slowest / slowest_share:.2f} s")
         if not any(run.links for run in runs):
             raise ToxiError("the client makes no connection to its proxies")
-        streams: List[StreamBytes] = []
         more = self._more_recorded(min(MOST_RECORDED, int(RECORDING / max(slowest, 0.001)), self.setup.batch_size))
-        for run in [*runs, *filter(_is_right, more)]:
-            streams = longer_streams(streams, run.streams)
         # A client may keep a connection in its thread, and then it makes none in the next run.
         most = max(len(run.links) for run in runs)
         shares = len(more) > 1 and all(_is_right(run) and len(run.links) >= most for run in more)
-        self._recorded = {stream.key for stream in streams}
         self.setup = replace(self.setup, keeps_logs=self.judge.reads_runs, shares_threads=shares)
-        return Conversation(streams)
+        known = _conversation_of([*runs, *filter(_is_right, more)]) if given is None else given
+        self._recorded = set(known.by_key)
+        return known
 
     def _unfaulted(self) -> List[BatchRun]:
         """Two runs without a fault. With more than 32 upstreams a `serve` has no proxies for two."""
@@ -237,6 +238,13 @@ class Runner:
         tally = self.tallies.setdefault(place, Tally())
         tally.runs += 1
         tally.reached += reached
+
+
+def _conversation_of(runs: Iterable[BatchRun]) -> Conversation:
+    streams: List[StreamBytes] = []
+    for run in runs:
+        streams = longer_streams(streams, run.streams)
+    return Conversation(streams)
 
 
 def _is_right(run: BatchRun) -> bool:

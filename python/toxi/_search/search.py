@@ -14,6 +14,7 @@ from ..errors import ToxiWarning
 from ..fault_points import DELAYS, FAULTS
 from ..outcomes import SETTLED_WITHIN, WITHIN, Allowed, Check, Client, Eventually, Startable, judge_of
 from ..sweep_table import Sweep
+from .about import SEARCH, SWEEP, About, plain
 from .drawing import DrawnFaults
 from .engine import Engine
 from .isolated import Isolated
@@ -96,6 +97,7 @@ class Search:
                 shown,
                 Memory.of(self.remember, self.name, self.upstreams),
                 self._pool,
+                self._about(SEARCH, {"runs": runs, "connections": connections, "stream": stream, "kinds": named, "trickle": trickle, "faults": words}),
             ).run()
 
     def sweep(
@@ -121,7 +123,8 @@ class Search:
         judge = functools.partial(judge_of, check=self.check, allowed=self._allowed, eventually=self.eventually, settle=self.settle)
         choose = chooser(faults, most, every_silence, self.within, self.seed, connections)
         measures = any(fault in DELAYS for fault in faults)
-        sweeping = Sweeping(self._setup(connect_timeout), choose, judge, True, budget, max_found, most, measures, every_silence)
+        about = self._about(SWEEP, {"faults": tuple(faults), "most": most, "every_silence": every_silence, "connections": connections})
+        sweeping = Sweeping(self._setup(connect_timeout), choose, judge, True, budget, max_found, most, measures, every_silence, about)
         # What it has then is its table, which says why it ended.
         with python_line(progress_text) as shown, contextlib.suppress(KeyboardInterrupt):
             sweeping.run(shown)
@@ -151,6 +154,10 @@ class Search:
     @property
     def _client(self) -> Union[Client, Startable]:
         return Isolated(self.client) if self.isolated or isinstance(self.client, str) else self.client
+
+    def _about(self, kind: str, options: Mapping[str, object]) -> About:
+        client = self.name or (self.client if isinstance(self.client, str) else getattr(self.client, "__qualname__", repr(self.client)))
+        return About(kind, str(client), self.seed, self.within, tuple(self.upstreams), {name: plain(value) for name, value in options.items()})
 
     def _setup(self, connect_timeout: Optional[int] = None) -> ClientSetup:
         if self.jobs < 1:

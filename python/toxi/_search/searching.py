@@ -11,18 +11,18 @@ from ..rules import Rule
 from ..toxics import Latency
 from .cases import Case
 from .conversation import Conversation, measuring_cases
+from .conversation_file import KeptConversation
 from .drawing import DrawnFaults, Drawing, drawn_cases
 from .failures import Failure, FailureKey
-from .known import Known
+from .known import HANGS_OF_PLACE, Known
 from .phases import boundary_cases, late_cases, outage_cases
 from .pool import Pool
 from .repeating import HANG_SHARE, REPETITIONS, Repeating
 from .running import Cases, Ended, MakeJudge, Over, Runner
+from .shards import Shard
 
 # Where no fault does that, one counts that the client fails under at least once more in so many runs.
 CHANCES = 5
-# A place that has made the client hang so often isn't tried again.
-HANGS_OF_PLACE = 2
 # The client must be done in a half of its limit without a fault.
 SLOWEST_SHARE = 0.5
 # Of so many drawn scripts those that delay nothing come first.
@@ -77,7 +77,7 @@ Handed = Callable[[Smallest], object]
 @dataclass
 class Searching:
     """A search under way. `handed` is called with each fault that repetitions have shown. Cases that are `remembered` are run first, and have their verdicts by
-    their keys in `remembered_verdicts`."""
+    their keys in `remembered_verdicts`. A `shard` of it runs its part of the cases, over the conversation that is `given`."""
 
     setup: ClientSetup
     make_judge: MakeJudge
@@ -94,6 +94,8 @@ class Searching:
     smallest: Optional[Smallest] = None
     remembered: Sequence[Case] = ()
     pool: Optional[Pool] = None
+    given: Optional[KeptConversation] = None
+    shard: Shard = Shard()
     remembered_verdicts: Dict[str, Verdict] = field(default_factory=dict)
     _failures: Known = field(default_factory=Known)
     _given: Set[FailureKey] = field(default_factory=set)
@@ -121,7 +123,7 @@ class Searching:
 
     def _learn_and_search(self) -> None:
         __tracebackhide__ = True
-        self.conversation = self.runner.learn(SLOWEST_SHARE)
+        self.conversation = self.runner.learn(SLOWEST_SHARE, None if self.given is None else self.given.conversation)
         try:
             self._search()
             self._shrink_hangs()
@@ -156,15 +158,21 @@ class Searching:
         """Runs each remembered case until it fails, at most `REMEMBERED_RUNS` times, since some fail now and then."""
         __tracebackhide__ = True
         self._phase = REMEMBERED if self.remembered else PHASES[0]
+        own = list(self.shard.part(self.remembered))
         for _ in range(REMEMBERED_RUNS):
             verdicts = self.remembered_verdicts
-            self._run(Cases([case for case in self.remembered if case.key not in verdicts or not verdicts[case.key].is_fault]))
-        self._known.update(self.remembered_verdicts)
+            self._run(Cases([case for case in own if case.key not in verdicts or not verdicts[case.key].is_fault]))
+        # The same in all shards, which draw the same.
+        self._known.update(case.key for case in self.remembered)
+        self._phase = PHASES[0]
 
     def _measure(self, conversation: Conversation) -> None:
-        """Learns the client's time limits. Its failures under silence count if silence is asked for."""
+        """Learns the client's time limits, unless they are given. Its failures under silence count if silence is asked for."""
         __tracebackhide__ = True
         cases = measuring_cases(conversation.streams)
+        if self.given is not None:
+            self._run(self._queue(cases))
+            return
         counted = [self._takes(case) for case in cases]
         if not any(counted) and not self.faults.takes(Latency(), 1):
             return
@@ -174,7 +182,9 @@ class Searching:
 
     def _drawn(self, conversation: Conversation) -> Iterable[Case]:
         """So many new scripts as are asked for, those that delay nothing first: their runs need no logs. A phase is drawn in parts, so that it begins soon."""
-        drawing = Drawing(conversation, self.runner.called, self.faults, self.setup.within)
+        # What a shard has called forth the others don't know.
+        called = self.runner.called if self.given is None else self.given.called
+        drawing = Drawing(conversation, called, self.faults, self.setup.within)
         drawn = itertools.islice(drawn_cases(drawing, self.seed, self._known), self.limits.runs)
         while True:
             part = list(itertools.islice(drawn, DRAWN_AT_ONCE))
@@ -183,8 +193,8 @@ class Searching:
             yield from sorted(part, key=_delays)
 
     def _queue(self, cases: Iterable[Case]) -> Cases:
-        """Those that are new, and whose faults are asked for. Drawn ones are."""
-        return Cases(cases if self._phase == PHASES[3] else self._asked_for(cases))
+        """This shard's part of those that are new, and whose faults are asked for. Drawn ones are."""
+        return Cases(self.shard.part(cases if self._phase == PHASES[3] else self._asked_for(cases)))
 
     def _asked_for(self, cases: Iterable[Case]) -> Iterable[Case]:
         for case in cases:
