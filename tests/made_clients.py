@@ -194,4 +194,6 @@ CLIENTS = {
 VERSIONS = {
     "clients/go/program.go": version_behind('const Version = "'),
     "clients/js/package.json": version_behind('"version": "', '-x64": "', '-arm64": "'),
+    "clients/java/pom.xml": version_behind("<artifactId>toxi</artifactId>\n  <version>"),
+    "clients/java/src/main/java/invalid/toxi/Program.java": version_behind('VERSION = "'),
 }
