@@ -20,6 +20,14 @@ def summary_of(result: Result) -> str:
     return "\n".join([*result.summary, *result.left_out]) if isinstance(result, Sweep) else result.summary
 
 
+def headline_of(result: Result) -> str:
+    """What it came to, in a line."""
+    if not isinstance(result, Sweep):
+        return result.summary
+    failing = len(result.failures)
+    return f"{result.summary[-1]}, {f'rows that are to be mended: {failing}' if failing else 'nothing is to be mended'}"
+
+
 def safe_text(text: str) -> str:
     """A text that XML can have, line by line."""
     return "\n".join(map(printed, text.split("\n"))).encode(errors="backslashreplace").decode()

@@ -6,7 +6,8 @@ from typing import Any, Callable, Dict, Iterable, List, Mapping, Optional, Seque
 from ._search.result import SearchResult
 from ._search.search import Search
 from .base import START_LIMIT, StrPath
-from .finding import BUDGET, RUNS, find_fault
+from .client_results import Result
+from .finding import BUDGET, RUNS, first_found
 from .found import Found
 from .kept_sweep import KeptSweep
 from .outcomes import SETTLED_WITHIN, WITHIN, Allowed, Check, Client, Eventually
@@ -21,11 +22,12 @@ from .sweeping import MOST, SWEPT, sweep_faults
 
 @dataclass(frozen=True)
 class Begun:
-    """How far a factory was at an instant: how many proxies were started, where those that lived stood, and how much was found and swept."""
+    """How far a factory was at an instant: how many proxies were started, where those that lived stood, and how much was found, searched and swept."""
 
     started: int = 0
     positions: Dict[Toxi, Position] = field(default_factory=dict)
     found: int = 0
+    results: int = 0
 
 
 @dataclass(frozen=True)
@@ -57,6 +59,8 @@ class ToxiFactory:
         self._workers = workers
         self._started: List[Toxi] = []
         self._found: List[Union[Found, KeptSweep]] = []
+        # What its searches and sweeps came to so far.
+        self.results: List[Result] = []
 
     def __call__(
         self,
@@ -108,11 +112,8 @@ class ToxiFactory:
         settle: float = SETTLED_WITHIN,
     ) -> "FixtureSearch":
         """`toxi.Search` under the fixture's seed, program and number of workers. What it finds and sweeps is in the report of a red test."""
-        search = FixtureSearch(
-            upstreams, client, check, allowed, within, before, self.seed, jobs, self._own_program(), self._workers, isolated, eventually, settle, self._root
-        )
-        search.keep_in(self)
-        return search
+        judged = check, allowed, within, before, self.seed, jobs, self._own_program(), self._workers, isolated, eventually, settle, self._root
+        return FixtureSearch(upstreams, client, *judged, factory=self)
 
     def next_folder(self, kind: str) -> Path:
         """Where the next of what is found or swept is written."""
@@ -146,26 +147,9 @@ class ToxiFactory:
     ) -> Optional[Found]:
         """`toxi.find_fault` under the fixture's seed, program and number of workers. What it finds is in the report of a red test."""
         __tracebackhide__ = True
-        found = find_fault(
-            upstreams,
-            client,
-            check=check,
-            allowed=allowed,
-            within=within,
-            runs=runs,
-            budget=budget,
-            seed=self.seed,
-            before=before,
-            connections=connections,
-            stream=stream,
-            kinds=kinds,
-            trickle=trickle,
-            folder=self.next_folder("found"),
-            program=self._own_program(),
-            workers=self._workers,
-        )
-        self.keep([] if found is None else [found])
-        return found
+        search = self.search(upstreams, client, check=check, allowed=allowed, within=within, before=before)
+        options: Dict[str, Any] = {"connections": connections, "stream": stream, "kinds": kinds, "trickle": trickle}
+        return first_found(search.find(runs=runs, budget=budget, max_found=1, **options))
 
     def sweep_faults(
         self,
@@ -199,6 +183,7 @@ class ToxiFactory:
             workers=self._workers,
         )
         self.keep([sweep])
+        self.results.append(sweep)
         return sweep
 
     def _own_program(self) -> Optional[str]:
@@ -213,7 +198,7 @@ class ToxiFactory:
     def begun(self) -> Begun:
         """How far they are now."""
         lives = {served: served.runs[-1].position() for served in self._started if not served.stopped}
-        return Begun(len(self._started), lives, len(self._found))
+        return Begun(len(self._started), lives, len(self._found), len(self.results))
 
     def found(self, begun: Begun) -> List[Union[Found, KeptSweep]]:
         """The faults that were found since, and the sweeps."""
@@ -229,25 +214,27 @@ class ToxiFactory:
         ]
 
 
+@dataclass(frozen=True)
 class FixtureSearch(Search):
-    """A `Search` whose results are in the report of a red test. Its options are those of `Search`."""
+    """A `Search` whose results are in the report of a red test, by its `factory`. Its options are those of `Search`."""
 
-    def keep_in(self, factory: ToxiFactory) -> None:
-        """Where results are kept."""
-        object.__setattr__(self, "_factory", factory)
+    factory: Optional[ToxiFactory] = None
 
     def find(self, **options: Any) -> SearchResult:
         """As `Search.find`, with folders of the fixture."""
         __tracebackhide__ = True
-        factory: ToxiFactory = vars(self)["_factory"]
-        given: Dict[str, Any] = {"folder": factory.next_folder("found"), **options}
+        assert self.factory is not None
+        given: Dict[str, Any] = {"folder": self.factory.next_folder("found"), **options}
         result = super().find(**given)
-        factory.keep(result.found)
+        self.factory.keep(result.found)
+        self.factory.results.append(result)
         return result
 
     def sweep(self, **options: Any) -> Sweep:
         """As `Search.sweep`, kept in a folder of the fixture."""
         __tracebackhide__ = True
+        assert self.factory is not None
         sweep = super().sweep(**options)
-        vars(self)["_factory"].keep([sweep])
+        self.factory.keep([sweep])
+        self.factory.results.append(sweep)
         return sweep

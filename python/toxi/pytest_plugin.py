@@ -15,7 +15,8 @@ from .artifacts import attempt_folder
 from .factory import Begun, ToxiFactory
 from .fixture_factory import RememberingFactory
 from .pytest_report import Fixture, Section
-from .pytest_settings import add_settings, settings_of
+from .pytest_results import NAME, SessionResults, give_results
+from .pytest_settings import add_settings, file_of, settings_of
 
 # The command line's seeds are 64 bits. Drawn ones are short enough to be typed.
 DRAWN_BITS = 32
@@ -29,8 +30,14 @@ KEPT = pytest.StashKey[Path]()
 
 
 def pytest_addoption(parser: pytest.Parser) -> None:
-    """`--toxi-seed`, `--toxi-workers`, `--toxi-program` and `--toxi-artifacts`, and the keys of the ini."""
+    """`--toxi-seed`, `--toxi-workers`, `--toxi-program`, `--toxi-artifacts`, `--toxi-page` and `--toxi-json`, and the keys of the ini."""
     add_settings(parser)
+
+
+def pytest_configure(config: pytest.Config) -> None:
+    """Takes the results of searches and sweeps, but not in a worker of pytest-xdist."""
+    if not hasattr(config, "workerinput"):
+        config.pluginmanager.register(SessionResults(file_of(config, "json"), file_of(config, "page")), NAME)
 
 
 @pytest.fixture
@@ -114,6 +121,8 @@ def pytest_runtest_makereport(item: pytest.Item) -> Generator[None, Any, None]:
     kept = _kept(item) if report.failed else None
     begun: Dict[ToxiFactory, Begun] = item.stash.get(BEGUN, {})
     for fixture in fixtures:
+        if report.when != "teardown":
+            give_results(report, fixture.factory.results[begun.get(fixture.factory, Begun()).results :])
         section = Section(item, fixture, begun.get(fixture.factory, Begun()))
         report.sections.append((fixture.name, section.text(report.failed, kept)))
 

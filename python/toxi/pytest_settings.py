@@ -34,18 +34,25 @@ def add_settings(parser: pytest.Parser) -> None:
     parser.addini("toxi_program", f"{about}. A path is relative to the ini's folder")
     parser.addini("toxi_faults", "a folder, from that of the ini, where searches write what they find, by the test's id, and whose faults they run first")
     group.addoption("--toxi-artifacts", metavar="DIR", help="keeps files, logs and pages of red tests in DIR, by the test's id and attempt")
+    group.addoption("--toxi-page", metavar="FILE", help="writes one page of all searches and sweeps")
+    group.addoption("--toxi-json", metavar="FILE", help="writes the results of all searches and sweeps as JSON, for toxi-merge")
 
 
 def settings_of(config: pytest.Config) -> Settings:
     """The settings of a session. Raises `pytest.UsageError` for a number of the ini that is none."""
-    artifacts = config.getoption("--toxi-artifacts")
     return Settings(
         _number(config, "seed"),
         _number(config, "workers"),
         config.getoption("--toxi-program") or _program_of_ini(config),
-        None if artifacts is None else config.invocation_params.dir / artifacts,
+        file_of(config, "artifacts"),
         _faults_of_ini(config),
     )
+
+
+def file_of(config: pytest.Config, name: str) -> Optional[Path]:
+    """A path of the command line, from where pytest was started."""
+    path: Optional[str] = config.getoption(f"--toxi-{name}")
+    return None if path is None else config.invocation_params.dir / path
 
 
 def _number(config: pytest.Config, name: str) -> Optional[int]:
