@@ -3,6 +3,7 @@ import importlib.util
 import itertools
 import os
 import signal
+import socket
 import subprocess
 import sys
 import time
@@ -16,7 +17,8 @@ from pathlib import Path
 import clients
 from find_tests import Searching, children
 from search_order_tests import by_bytes
-from toxi import Search, ToxiError
+from toxi import Search, ToxiError, ToxiWarning
+from toxi._search.cases import Case
 from toxi._search.executed import Job, run_job
 from toxi.batches import ClientSetup
 
@@ -72,6 +74,19 @@ class Silent(Executor):
         future = Future()
         if self.left:
             self.left -= 1
+            future.set_result(function(job))
+        return future
+
+
+class GoneOnceFound(Executor):
+    """Does jobs until a folder is there, as one whose scheduler goes away then."""
+
+    def __init__(self, folder):
+        self.folder = folder
+
+    def submit(self, function, job):
+        future = Future()
+        if not self.folder.exists():
             future.set_result(function(job))
         return future
 
@@ -161,6 +176,21 @@ class PoolTests(Executing):
         """As one whose scheduler has gone. Its first two jobs are those without a fault."""
         with mock.patch("toxi._search.pool.RUNS_OF_JOB", 1), self.assertRaisesRegex(ToxiError, "^the executor gives no answer, and the budget is used up$"):
             Search(self.shop, by_bytes, within=4.0, executor=Silent(2)).find(budget=6.0, faults=["closed"])
+
+    def test_what_was_found_is_kept_where_the_executor_goes_away(self):
+        folder = Path(self.folder, "found")
+        patience = mock.patch("toxi._search.pool.Pool._patience", lambda pool, setup: 2.0)
+        with patience, self.assertWarnsRegex(ToxiWarning, "(?s)^ToxiError has ended the search, which had found\nwrong answer: sh .*/found/again.sh$"):
+            with self.assertRaisesRegex(ToxiError, "^the executor gives no answer"):
+                self.find(by_bytes, GoneOnceFound(folder), folder=folder)
+        self.assertTrue((folder / "script.toml").exists())
+
+    def test_an_upstream_that_a_worker_does_not_reach_is_named(self):
+        with socket.create_server(("127.0.0.1", 0)) as free:
+            absent = f"127.0.0.1:{free.getsockname()[1]}"
+        job = Job("clients:whole", False, ClientSetup({"shop": absent}, None, WITHIN, None, 1, {}), (Case(),), None, True)
+        with self.assertRaisesRegex(ToxiError, f"^no service answers a worker at {absent}, the upstream 'shop': .*refused"):
+            run_job(job)
 
     def test_jobs_that_are_lost_are_run_again(self):
         right = self.told(self.find(by_bytes, None))
