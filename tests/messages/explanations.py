@@ -31,10 +31,10 @@ def environment(asked):
     return dict(os.environ) if asked is None else os.environ | {"TOXI_EXPLAIN": asked}
 
 
-def run(program, arguments, asked, error, folder):
-    """Runs a command with this standard error."""
+def run(program, arguments, asked, error, folder, variables=None):
+    """Runs a command with this standard error, and these variables beside the others."""
     return subprocess.run(
-        [program, *arguments], env=environment(asked), stdin=subprocess.DEVNULL, stdout=subprocess.DEVNULL, stderr=error, timeout=PATIENCE, cwd=folder, check=False
+        [program, *arguments], env=environment(asked) | (variables or {}), stdin=subprocess.DEVNULL, stdout=subprocess.DEVNULL, stderr=error, timeout=PATIENCE, cwd=folder, check=False
     )
 
 
@@ -79,6 +79,31 @@ def explains_on_a_terminal(program, folder):
     for asked, wanted in ((None, EXPLAINED), ("0", FAULT), ("1", EXPLAINED)):
         found = said_on_terminal(program, ["plan", "latency=1s"], asked, folder)
         assert found == wanted, (asked, found)
+
+
+def said_to_journal(program, variables, folder, inode=0):
+    """What a command says to a socket, which JOURNAL_STREAM tells unless its inode is another one."""
+    ours, theirs = socket.socketpair()
+    with ours:
+        with theirs:
+            file = os.fstat(theirs.fileno())
+            journal = f"{file.st_dev}:{file.st_ino + inode}"
+            run(program, ["plan", "latency=1s"], None, theirs, folder, {"JOURNAL_STREAM": journal, **variables})
+        return b"".join(iter(lambda: ours.recv(65536), b"")).decode()
+
+
+def explains_in_the_journal(program, folder):
+    """What systemd starts inherits JOURNAL_STREAM, also where its standard error goes elsewhere."""
+    assert said_to_journal(program, {}, folder) == EXPLAINED
+    assert said_to_journal(program, {"TOXI_EXPLAIN": "0"}, folder) == FAULT
+    assert said_to_journal(program, {}, folder, inode=1) == FAULT
+    for journal in ("", "8", "8:", ":", "x:1", "8:1:1"):
+        assert said_to_journal(program, {"JOURNAL_STREAM": journal}, folder) == FAULT, journal
+    ours, theirs = socket.socketpair()
+    with ours, theirs:
+        file = os.fstat(theirs.fileno())
+        ran = run(program, ["plan", "latency=1s"], None, subprocess.PIPE, folder, {"JOURNAL_STREAM": f"{file.st_dev}:{file.st_ino}"})
+    assert ran.stderr.decode() == FAULT, ran.stderr
 
 
 def explains_lines_to_their_end(program, folder):
@@ -166,6 +191,7 @@ CASES = [
     explains_a_port_of_another_program,
     tells_a_toxic_that_is_not_there,
     explains_on_a_terminal,
+    explains_in_the_journal,
     explains_a_script_by_a_fifo,
     waits_for_no_second_log,
 ]

@@ -1,13 +1,22 @@
 //! What stands below a fault's line on standard error.
 use crate::fail;
-use std::env;
+use std::fs::Metadata;
+use std::os::unix::fs::MetadataExt;
 use std::process::ExitCode;
-use std::rt::Env;
+use std::rt::{Env, Files};
+use std::{env, fs};
 use tox_explain::{Failure, Inputs, explain, near_name};
 use tox_proxy::VisibleName;
 
 /// The variable of the environment that asks for explanations by `1`, and refuses them by `0`.
 const VARIABLE: &str = "TOXI_EXPLAIN";
+
+/// The variable in which systemd tells the device and the inode of the socket to its journal. A child inherits it, also one whose standard error goes
+/// elsewhere.
+const JOURNAL: &str = "JOURNAL_STREAM";
+
+/// Standard error, as a file.
+const ERRORS: &str = "/proc/self/fd/2";
 
 /// How much is reported below a fault's line.
 #[derive(Clone, Copy, PartialEq, Eq)]
@@ -21,9 +30,19 @@ pub enum Explaining {
 }
 
 impl Explaining {
-    /// What the command line asks for, or else the environment. Without these a fault is explained on a terminal.
-    pub fn of<R: Env + AllocGlobal>(rt: &R, reported: bool, on_terminal: bool) -> Explaining {
-        if reported || is_asked_by_environment(rt).unwrap_or(on_terminal) {
+    /// What the command line asks for, or else the environment. Without these a fault is explained on a terminal, and in the journal, where nobody
+    /// can ask again.
+    pub fn of<R: Env + Files + AllocGlobal>(
+        rt: &R,
+        reported: bool,
+        on_terminal: bool,
+    ) -> Explaining {
+        let is_explained = match is_asked_by_environment(rt) {
+            _ if reported => true,
+            Some(asked) => asked,
+            None => on_terminal || goes_to_journal(rt),
+        };
+        if is_explained {
             Explaining::Whole
         } else {
             Explaining::Nothing
@@ -71,6 +90,25 @@ fn is_asked_by_environment<R: Env + AllocGlobal>(rt: &R) -> Option<bool> {
         "0" => Some(false),
         _ => None,
     }
+}
+
+/// Whether standard error goes to the journal.
+fn goes_to_journal<R: Env + Files + AllocGlobal>(rt: &R) -> bool {
+    let Ok(journal) = env::var(rt, JOURNAL) else {
+        return false;
+    };
+    match fs::metadata(rt, ERRORS) {
+        Ok(errors) => is_file(journal.as_str(), &errors),
+        Err(_) => false,
+    }
+}
+
+/// Whether a text is the device and the inode of a file, in decimal with a colon between.
+fn is_file(text: &str, file: &Metadata) -> bool {
+    let Some((device, inode)) = text.split_once(':') else {
+        return false;
+    };
+    device.parse() == Ok(file.dev()) && inode.parse() == Ok(file.ino())
 }
 
 /// Prints the nearest name to a type or an attribute that there isn't, if one is near.
