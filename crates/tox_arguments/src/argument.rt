@@ -1,4 +1,6 @@
 //! An argument of a command: a row of the command's table, and how it is given to `clap`.
+use crate::argument_help::ArgumentLines;
+use crate::environment::Environment;
 use crate::takes::{Absent, Takes};
 use crate::value_kind::ValueKind;
 use clap::{Arg, ArgAction};
@@ -16,6 +18,8 @@ pub struct Argument {
     pub value: &'static str,
     /// What a value names.
     pub kind: ValueKind,
+    /// The heading that it stands below in the help. Empty: that of all options.
+    pub heading: &'static str,
     /// What it is for. The help tells its range and what holds without it behind these words.
     pub help: &'static str,
     /// Of an option of the program: whether each command has it too.
@@ -48,6 +52,7 @@ pub(crate) const OPTION: Argument = Argument {
     dashed: true,
     value: "",
     kind: ValueKind::Plain,
+    heading: "",
     help: "",
     shared: false,
     takes: Takes::Text,
@@ -105,15 +110,46 @@ impl Argument {
         }
     }
 
-    /// The argument as `clap` has it, with this line of help.
-    pub(crate) fn arg<'a>(&self, alloc: Global, help: &'a str) -> Result<Arg<'a>, AllocError> {
+    /// How many characters it takes in the help, at most.
+    pub(crate) fn width(&self) -> usize {
+        let value = self.value.len();
+        if !self.dashed {
+            return value.saturating_add("[<>]...".len());
+        }
+        let name = "-h, --".len().saturating_add(self.name.len());
+        if self.most == 0 {
+            name
+        } else {
+            name.saturating_add(" <>".len()).saturating_add(value)
+        }
+    }
+
+    /// The argument as `clap` has it, with its lines of help. It needn't be typed where a variable of the environment stands in for it.
+    pub(crate) fn arg<'a>(
+        &self,
+        alloc: Global,
+        lines: Option<&'a ArgumentLines>,
+        environment: &Environment,
+    ) -> Result<Arg<'a>, AllocError> {
+        let is_set = environment.has(self);
         let arg = Arg::new(alloc, self.name)
-            .help(help)
             .value_name(self.value)
             .value_parser(self.takes.parser())
+            .hide_possible_values(true)
             .num_args(self.fewest..=self.most)
             .action(self.action)
-            .required(self.needed);
+            .required(self.needed && !is_set);
+        let arg = match lines {
+            Some(lines) => arg
+                .help(lines.short.as_str())
+                .long_help(lines.long.as_str()),
+            None => arg.help(self.help),
+        };
+        let arg = if self.heading.is_empty() {
+            arg
+        } else {
+            arg.help_heading(self.heading)
+        };
         let arg = if self.dashed {
             arg.long(self.name)
         } else {
@@ -123,7 +159,7 @@ impl Argument {
             Some(letter) => arg.short(letter),
             None => arg,
         };
-        arg.required_unless_present_any(self.unless)?
+        arg.required_unless_present_any(if is_set { &[] } else { self.unless })?
             .conflicts_with_all(self.without)?
             .requires_all(self.beside)
     }

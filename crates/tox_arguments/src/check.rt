@@ -11,6 +11,7 @@ use tox_proxy::CheckRequest;
 pub(crate) const CHECK: CommandForm = CommandForm {
     name: "check",
     about: "Prints which rules and toxics of a script have no effect",
+    usage: "",
     examples: help::CHECK,
     arguments: &[
         CONFIG,

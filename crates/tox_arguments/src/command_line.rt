@@ -2,6 +2,7 @@
 use crate::argument_help::HelpLines;
 use crate::check::check_task;
 use crate::commands::{explain_of, toxi, toxi_with_arguments};
+use crate::environment::Environment;
 use crate::forecast::forecast_task;
 use crate::link::{DrawArguments, LinkArguments, draw_task, link_task};
 use crate::migrate::migrate_task;
@@ -54,16 +55,17 @@ pub struct CommandLine<'a> {
     pub explain: bool,
 }
 
-/// Reads the command line. An error is `clap`'s own text, help too.
+/// Reads the command line, and for `serve` the environment. An error is `clap`'s own text, help too.
 #[inline(never)]
 pub fn read<'a, S: AsStr>(
     alloc: Global,
     words: &'a [S],
     lines: &'a HelpLines,
+    environment: &'a Environment,
 ) -> Result<CommandLine<'a>, Error> {
-    let matches = matches_of(alloc, words, lines)?;
+    let matches = matches_of(alloc, words, lines, environment)?;
     Ok(CommandLine {
-        task: task_of(alloc, &matches, lines)?,
+        task: task_of(alloc, &matches, lines, environment)?,
         explain: explain_of(&matches),
     })
 }
@@ -73,6 +75,7 @@ fn task_of<'a>(
     alloc: Global,
     matches: &ArgMatches<'a>,
     lines: &HelpLines,
+    environment: &'a Environment,
 ) -> Result<Task<'a>, Error> {
     let Some((name, given)) = matches.subcommand() else {
         return Err(incomplete(alloc));
@@ -84,11 +87,11 @@ fn task_of<'a>(
         "pick" => pick_task(alloc, given),
         "forecast" => forecast_task(alloc, given),
         "migrate" => migrate_task(alloc, given),
-        "serve" => serve_task(alloc, given),
+        "serve" => serve_task(alloc, given, environment),
         "wait" => wait_task(alloc, given),
         "replay" => replay_task(alloc, given),
         "report" => report_task(alloc, given),
-        "help" => help_task(alloc, given, lines),
+        "help" => help_task(alloc, given, lines, environment),
         "arguments" => Ok(Task::Arguments),
         _ => Err(incomplete(alloc)),
     }
@@ -99,11 +102,12 @@ pub(crate) fn matches_of<'a, S: AsStr>(
     alloc: Global,
     words: &'a [S],
     lines: &'a HelpLines,
+    environment: &Environment,
 ) -> Result<ArgMatches<'a>, Error> {
     let toxi = if asks_for_table(words) {
-        toxi_with_arguments(alloc, Some(lines))?
+        toxi_with_arguments(alloc, Some(lines), environment)?
     } else {
-        toxi(alloc, Some(lines))?
+        toxi(alloc, Some(lines), environment)?
     };
     toxi.try_get_matches_from(words)
 }
@@ -128,7 +132,7 @@ pub(crate) fn incomplete(alloc: Global) -> Error {
 
 /// A refusal in `clap`'s form, with the program's usage.
 pub(crate) fn refusal(alloc: Global, kind: ErrorKind, why: &str) -> Error {
-    let refusal = match toxi(alloc, None) {
+    let refusal = match toxi(alloc, None, &Environment::new(alloc)) {
         Ok(mut toxi) => toxi.error(kind, why),
         Err(fault) => Err(fault),
     };

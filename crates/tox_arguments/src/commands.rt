@@ -3,6 +3,7 @@ use crate::argument::{Argument, FLAG};
 use crate::argument_help::{CommandLines, HelpLines};
 use crate::check::CHECK;
 use crate::command::CommandForm;
+use crate::environment::Environment;
 use crate::forecast::FORECAST;
 use crate::help;
 use crate::link::{DRAW, DRY, PLAN, STAGES};
@@ -32,6 +33,7 @@ const EXPLAIN: Argument = Argument {
 pub const PROGRAM: CommandForm = CommandForm {
     name: "toxi",
     about: "A TCP proxy that adds scripted faults",
+    usage: "",
     examples: help::PROGRAM,
     arguments: &[
         EXPLAIN,
@@ -72,9 +74,13 @@ pub(crate) fn explain_of(given: &ArgMatches<'_>) -> bool {
 pub(crate) fn toxi<'a>(
     alloc: Global,
     lines: Option<&'a HelpLines>,
+    environment: &Environment,
 ) -> Result<Command<'a>, AllocError> {
-    let mut toxi = PROGRAM
-        .command(alloc, None)?
+    let own = match lines {
+        Some(lines) => Some(&lines.program),
+        None => None,
+    };
+    let mut toxi = command_of(alloc, &PROGRAM, own, environment)?
         .bin_name(PROGRAM.name)?
         .version(VERSION)
         .disable_help_flag(true)
@@ -83,7 +89,7 @@ pub(crate) fn toxi<'a>(
         .subcommand_required(true);
     for (place, form) in COMMANDS.iter().enumerate() {
         let lines = lines.and_then(|lines| lines.commands.get(place));
-        toxi = toxi.subcommand(command_of(alloc, form, lines)?)?;
+        toxi = toxi.subcommand(command_of(alloc, form, lines, environment)?)?;
     }
     Ok(toxi)
 }
@@ -93,22 +99,33 @@ pub(crate) fn toxi<'a>(
 pub(crate) fn toxi_with_arguments<'a>(
     alloc: Global,
     lines: Option<&'a HelpLines>,
+    environment: &Environment,
 ) -> Result<Command<'a>, AllocError> {
-    let arguments = command_of(alloc, &ARGUMENTS, None)?.hide(true);
-    toxi(alloc, lines)?.subcommand(arguments)
+    let arguments = command_of(alloc, &ARGUMENTS, None, environment)?.hide(true);
+    toxi(alloc, lines, environment)?.subcommand(arguments)
 }
 
-/// A command with its arguments, and behind them those of the program that each command has.
+/// A command with its arguments.
 fn command_of<'a>(
     alloc: Global,
     form: &CommandForm,
     lines: Option<&'a CommandLines>,
+    environment: &Environment,
 ) -> Result<Command<'a>, AllocError> {
-    let mut command = form.command(alloc, lines)?;
+    let arguments = arguments_of(alloc, form)?;
+    form.command(alloc, &arguments, lines, environment)
+}
+
+/// The arguments of a command, and behind them those of the program that each command has.
+pub(crate) fn arguments_of(alloc: Global, form: &CommandForm) -> Result<Vec<Argument>, AllocError> {
+    let mut arguments = Vec::from_slice(alloc, form.arguments)?;
+    if form.name == PROGRAM.name {
+        return Ok(arguments);
+    }
     for argument in PROGRAM.arguments {
         if argument.shared {
-            command = command.arg(argument.arg(alloc, argument.help)?)?;
+            arguments.push(*argument)?;
         }
     }
-    Ok(command)
+    Ok(arguments)
 }

@@ -9,9 +9,15 @@ use clap::{ArgMatches, Error};
 use std::alloc::Global;
 use tox_proxy::ForecastRequest;
 
+/// How it is called. In one line this is too long for the help.
+const USAGE: &str = "\
+toxi forecast --config <FILE> --script <FILE> --proxy <NAME> --links <N>
+                     --seed <N> [OPTIONS]";
+
 pub(crate) const FORECAST: CommandForm = CommandForm {
     name: "forecast",
-    about: "Prints what the connections of a proxy will meet, and how often each toxic is applied",
+    about: "Prints what connections will meet, and how often toxics are applied",
+    usage: USAGE,
     examples: help::FORECAST,
     arguments: &[
         CONFIG,

@@ -34,13 +34,15 @@ pub enum DrawArguments<'a> {
 pub(crate) const DRY: CommandForm = CommandForm {
     name: "dry",
     about: "Prints when each byte would leave, and how the link would end",
+    usage: "",
     examples: help::DRY,
     arguments: &[LANES, WORDS, TOXICS],
 };
 
 pub(crate) const DRAW: CommandForm = CommandForm {
     name: "draw",
-    about: "Prints a picture of what arrives, what leaves and what is held between",
+    about: "Prints a picture of what arrives, leaves and is held between",
+    usage: "",
     examples: help::DRAW,
     arguments: &[LOG, LANES, WORDS, TOXICS],
 };
@@ -48,6 +50,7 @@ pub(crate) const DRAW: CommandForm = CommandForm {
 pub(crate) const PLAN: CommandForm = CommandForm {
     name: "plan",
     about: "Prints what the toxics are compiled into",
+    usage: "",
     examples: help::PLAN,
     arguments: &[LANES, WORDS, TOXICS],
 };
@@ -55,6 +58,7 @@ pub(crate) const PLAN: CommandForm = CommandForm {
 pub(crate) const STAGES: CommandForm = CommandForm {
     name: "stages",
     about: "Prints what `dry` prints, by a thread for each toxic",
+    usage: "",
     examples: help::STAGES,
     arguments: &[CAP, LANES, WORDS, TOXICS],
 };

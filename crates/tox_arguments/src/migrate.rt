@@ -9,6 +9,7 @@ use std::alloc::Global;
 pub(crate) const MIGRATE: CommandForm = CommandForm {
     name: "migrate",
     about: "Prints a script of version 1 as a script of version 2",
+    usage: "",
     examples: help::MIGRATE,
     arguments: &[SCRIPT],
 };

@@ -9,9 +9,15 @@ use clap::{ArgMatches, Error};
 use std::alloc::Global;
 use tox_proxy::PickRequest;
 
+/// How it is called. In one line this is too long for the help.
+const USAGE: &str = "\
+toxi pick --config <FILE> --script <FILE> --proxy <NAME> --conn <N>
+                 --stream <STREAM> --seed <N> [OPTIONS]";
+
 pub(crate) const PICK: CommandForm = CommandForm {
     name: "pick",
-    about: "Prints what a numbered connection meets, from the files and the seed alone",
+    about: "Prints what one connection meets, from the files and the seed",
+    usage: USAGE,
     examples: help::PICK,
     arguments: &[
         CONFIG,

@@ -40,7 +40,8 @@ const ONE_FILE: &str = "--arrivals, --words and --result take one FILE";
 
 pub(crate) const REPLAY: CommandForm = CommandForm {
     name: "replay",
-    about: "Says of each log of `serve` whether it is faithful, and how late it was",
+    about: "Says whether each log of `serve` is faithful, and how late it was",
+    usage: "",
     examples: help::REPLAY,
     arguments: &[
         Argument {

@@ -31,6 +31,7 @@ pub struct ReportArguments<'a> {
 pub(crate) const REPORT: CommandForm = CommandForm {
     name: "report",
     about: "Prints a page of a run: its links, with their pictures",
+    usage: "",
     examples: help::REPORT,
     arguments: &[
         Argument {

@@ -1,8 +1,9 @@
 //! The command `serve` and its options.
 use crate::argument::{Argument, FLAG, OPTION, OPTIONS};
-use crate::arguments::{CONFIG, CONNECTIONS, JSON, MAX_CONNECT_TIMEOUT, SCRIPT, SEED, files_of};
+use crate::arguments::{CONFIG, CONNECTIONS, JSON, MAX_CONNECT_TIMEOUT, SCRIPT, SEED};
 use crate::command::CommandForm;
 use crate::command_line::{Task, incomplete};
+use crate::environment::{Environment, UsedVariable, number_of, text_of};
 use crate::help;
 use crate::takes::{Absent, NumberRange, Takes};
 use crate::value_kind::ValueKind;
@@ -35,6 +36,8 @@ pub struct ServeArguments<'a> {
     pub quiet: bool,
     /// Whether the end of standard input tells it to end.
     pub until_eof: bool,
+    /// The variables of the environment that stand in for options.
+    pub variables: Vec<UsedVariable<'a>>,
     pub options: ServeOptions<'a>,
 }
 
@@ -76,35 +79,77 @@ struct PlacedToxic<'a> {
     toxic: InlineToxic<'a>,
 }
 
-pub(crate) const SERVE: CommandForm = CommandForm {
+/// How it is called: with files, or with one proxy.
+const USAGE: &str = "\
+toxi serve --config <FILE> --script <FILE> --seed <N> [OPTIONS]
+       toxi serve --listen <ADDRESS> --upstream <ADDRESS> --seed <N> [OPTIONS]";
+
+/// The headings of its options.
+const SERVED: &str = "What is served";
+
+const SERVING: &str = "How links are served";
+
+const PRINTED: &str = "What is printed and logged";
+
+/// The options that a variable of the environment may stand in for.
+const SERVE_CONFIG: Argument = Argument {
+    heading: SERVED,
+    needed: false,
+    unless: &["listen"],
+    environment: "TOXI_CONFIG",
+    ..CONFIG
+};
+
+const SERVE_SCRIPT: Argument = Argument {
+    heading: SERVED,
+    needed: false,
+    unless: &["listen"],
+    environment: "TOXI_SCRIPT",
+    ..SCRIPT
+};
+
+const SERVE_SEED: Argument = Argument {
+    heading: SERVED,
+    needed: false,
+    unless: &["any-seed"],
+    environment: "TOXI_SEED",
+    ..SEED
+};
+
+const WORKERS: Argument = Argument {
+    name: "workers",
+    heading: SERVING,
+    value: "N",
+    help: "How many threads drive all links",
+    takes: Takes::Number(NumberRange {
+        least: 1,
+        most: MAX_WORKERS,
+        unit: "threads",
+    }),
+    absent: Absent::Words("each link has four of its own"),
+    environment: "TOXI_WORKERS",
+    ..OPTION
+};
+
+pub const SERVE: CommandForm = CommandForm {
     name: "serve",
-    about: "Listens for each proxy, and carries its connections under their toxics",
+    about: "Listens for each proxy and carries its connections under toxics",
+    usage: USAGE,
     examples: help::SERVE,
     arguments: &[
-        // What is served: two files, or one proxy with its toxics.
-        Argument {
-            needed: false,
-            unless: &["listen"],
-            ..CONFIG
-        },
-        Argument {
-            needed: false,
-            unless: &["listen"],
-            ..SCRIPT
-        },
-        Argument {
-            needed: false,
-            unless: &["any-seed"],
-            ..SEED
-        },
+        SERVE_CONFIG,
+        SERVE_SCRIPT,
+        SERVE_SEED,
         Argument {
             name: "any-seed",
+            heading: SERVED,
             help: "In place of --seed: draws a seed, and prints it on standard error",
             without: &["seed"],
             ..FLAG
         },
         Argument {
             name: "listen",
+            heading: SERVED,
             value: "ADDRESS",
             help: "In place of the files: the address of one proxy, `default`",
             beside: &["upstream"],
@@ -113,6 +158,7 @@ pub(crate) const SERVE: CommandForm = CommandForm {
         },
         Argument {
             name: "upstream",
+            heading: SERVED,
             value: "ADDRESS",
             help: "With --listen: the address of the server behind it",
             beside: &["listen"],
@@ -120,6 +166,7 @@ pub(crate) const SERVE: CommandForm = CommandForm {
         },
         Argument {
             name: "down",
+            heading: SERVED,
             value: "TOXIC",
             kind: ValueKind::Toxic,
             help: "With --listen: a toxic from the server to the client; may be repeated",
@@ -128,6 +175,7 @@ pub(crate) const SERVE: CommandForm = CommandForm {
         },
         Argument {
             name: "up",
+            heading: SERVED,
             value: "TOXIC",
             kind: ValueKind::Toxic,
             help: "With --listen: a toxic from the client to the server; may be repeated",
@@ -136,21 +184,23 @@ pub(crate) const SERVE: CommandForm = CommandForm {
         },
         Argument {
             name: "print-files",
+            heading: SERVED,
             value: "DIR",
             kind: ValueKind::Folder,
             help: "With --listen: writes proxies.json and script.toml that mean the same, and ends",
             beside: &["listen"],
             ..OPTION
         },
-        // How links are served.
         Argument {
             name: "links",
+            heading: SERVING,
             help: "After how many connections each proxy stops listening",
             absent: Absent::Words("it goes on to 1000000"),
             ..CONNECTIONS
         },
         Argument {
             name: "connect-timeout",
+            heading: SERVING,
             value: "MS",
             help: "How many milliseconds a connect to an upstream may take",
             takes: Takes::Number(NumberRange {
@@ -163,30 +213,21 @@ pub(crate) const SERVE: CommandForm = CommandForm {
         },
         Argument {
             name: "ready",
+            heading: SERVING,
             value: "ADDRESS",
             help: "An address for probes, which listens once all proxies do, and whose connections don't count",
             ..OPTION
         },
-        Argument {
-            name: "workers",
-            value: "N",
-            help: "How many threads drive all links",
-            takes: Takes::Number(NumberRange {
-                least: 1,
-                most: MAX_WORKERS,
-                unit: "threads",
-            }),
-            absent: Absent::Words("each link has four of its own"),
-            ..OPTION
-        },
+        WORKERS,
         Argument {
             name: "until-eof",
+            heading: SERVING,
             help: "Reads and drops standard input, and ends at its end as at SIGTERM",
             ..FLAG
         },
-        // What is logged and printed.
         Argument {
             name: "log",
+            heading: PRINTED,
             value: "DIR",
             kind: ValueKind::Folder,
             help: "The folder that gets a log of each stream; it is made, or must be empty",
@@ -194,6 +235,7 @@ pub(crate) const SERVE: CommandForm = CommandForm {
         },
         Argument {
             name: "log-links",
+            heading: PRINTED,
             help: "How many links of each proxy are logged",
             absent: Absent::Number(DEFAULT_LOG_LINKS),
             beside: &["log"],
@@ -201,6 +243,7 @@ pub(crate) const SERVE: CommandForm = CommandForm {
         },
         Argument {
             name: "log-bytes",
+            heading: PRINTED,
             value: "N",
             help: "How many bytes a log has at most",
             takes: Takes::Number(NumberRange {
@@ -214,28 +257,50 @@ pub(crate) const SERVE: CommandForm = CommandForm {
         },
         Argument {
             name: "verbose",
+            heading: PRINTED,
             help: "Prints what `check` says at the start, and a line for each stream of a link as its upstream is reached",
             ..FLAG
         },
         Argument {
             name: "quiet",
+            heading: PRINTED,
             help: "Leaves out what `check` says at the start on standard error",
             ..FLAG
         },
-        JSON,
+        Argument {
+            heading: PRINTED,
+            ..JSON
+        },
     ],
 };
 
-/// The task of `serve` with files or with one proxy. `clap` has rejected both.
-pub(crate) fn serve_task<'a>(alloc: Global, given: &ArgMatches<'a>) -> Result<Task<'a>, Error> {
-    match files_of(given) {
-        Some((config, script)) => Ok(serving(given, ServeSource::Files { config, script })),
-        None => inline_task(alloc, given),
+/// The task of `serve` with files or with one proxy. `clap` has rejected both. Where a proxy is typed, no file comes from the environment.
+pub(crate) fn serve_task<'a>(
+    alloc: Global,
+    given: &ArgMatches<'a>,
+    environment: &'a Environment,
+) -> Result<Task<'a>, Error> {
+    if given.get_str("listen").is_some() {
+        return inline_task(alloc, given, environment);
+    }
+    let mut used = Vec::new(alloc);
+    let config = text_of(alloc, given, environment, &SERVE_CONFIG, &mut used)?;
+    let script = text_of(alloc, given, environment, &SERVE_SCRIPT, &mut used)?;
+    match config.zip(script) {
+        Some((config, script)) => {
+            let source = ServeSource::Files { config, script };
+            serving(alloc, given, environment, source, used)
+        }
+        None => Err(incomplete(alloc)),
     }
 }
 
 /// The task of `serve` with one proxy: to serve it, or to print the files that mean the same.
-fn inline_task<'a>(alloc: Global, given: &ArgMatches<'a>) -> Result<Task<'a>, Error> {
+fn inline_task<'a>(
+    alloc: Global,
+    given: &ArgMatches<'a>,
+    environment: &'a Environment,
+) -> Result<Task<'a>, Error> {
     let Some((listen, upstream)) = given.get_str("listen").zip(given.get_str("upstream")) else {
         return Err(incomplete(alloc));
     };
@@ -244,31 +309,48 @@ fn inline_task<'a>(alloc: Global, given: &ArgMatches<'a>) -> Result<Task<'a>, Er
         upstream,
         toxics: toxics_of(alloc, given)?,
     };
-    Ok(match given.get_str("print-files") {
-        Some(folder) => Task::PrintFiles(inline, folder),
-        None => serving(given, ServeSource::Inline(inline)),
-    })
+    match given.get_str("print-files") {
+        Some(folder) => Ok(Task::PrintFiles(inline, folder)),
+        None => {
+            let source = ServeSource::Inline(inline);
+            serving(alloc, given, environment, source, Vec::new(alloc))
+        }
+    }
 }
 
-/// The task to serve.
-fn serving<'a>(given: &ArgMatches<'a>, source: ServeSource<'a>) -> Task<'a> {
-    Task::Serve(ServeArguments {
+/// The task to serve, with the variables that told what is served.
+fn serving<'a>(
+    alloc: Global,
+    given: &ArgMatches<'a>,
+    environment: &'a Environment,
+    source: ServeSource<'a>,
+    used: Vec<UsedVariable<'a>>,
+) -> Result<Task<'a>, Error> {
+    let mut used = used;
+    let seed = if given.get_flag("any-seed") {
+        None
+    } else {
+        number_of(alloc, given, environment, &SERVE_SEED, &mut used)?
+    };
+    let workers = number_of(alloc, given, environment, &WORKERS, &mut used)?;
+    Ok(Task::Serve(ServeArguments {
         source,
-        seed: given.get_one::<u64>("seed"),
+        seed,
         folder: given.get_str("log"),
         quiet: given.get_flag("quiet"),
         until_eof: given.get_flag("until-eof"),
-        options: options_of(given),
-    })
+        variables: used,
+        options: options_of(given, workers),
+    }))
 }
 
-/// The options of serving. `clap` has rejected numbers that are too large.
-fn options_of<'a>(given: &ArgMatches<'a>) -> ServeOptions<'a> {
+/// The options of serving. Numbers that are too large were rejected.
+fn options_of<'a>(given: &ArgMatches<'a>, workers: Option<u64>) -> ServeOptions<'a> {
     ServeOptions {
         links: given.get_one::<u64>("links"),
         connect_timeout: given.get_one::<u32>("connect-timeout"),
         ready: given.get_str("ready"),
-        workers: given.get_one::<u32>("workers"),
+        workers: workers.and_then(|workers| u32::try_from(workers).ok()),
         logs: limits_of(given),
         verbose: given.get_flag("verbose"),
         form: if given.get_flag("json") {

@@ -5,6 +5,7 @@ use crate::help;
 pub(crate) const ARGUMENTS: CommandForm = CommandForm {
     name: "arguments",
     about: "Prints the commands, their arguments and what completes them, as lines of JSON",
+    usage: "",
     examples: help::ARGUMENTS,
     arguments: &[],
 };

@@ -3,6 +3,7 @@ use crate::argument::{Argument, OPTION, PLACE};
 use crate::argument_help::HelpLines;
 use crate::command::CommandForm;
 use crate::command_line::{Task, incomplete, matches_of};
+use crate::environment::Environment;
 use crate::faults::fault_of;
 use crate::help;
 use crate::schema::Schema;
@@ -15,7 +16,8 @@ use tox_defs::Toxic;
 
 pub(crate) const HELP: CommandForm = CommandForm {
     name: "help",
-    about: "Prints the help of a command, of toxics, scripts or faults, or of a fault by its code",
+    about: "Prints the help of a command, a topic, a toxic or a fault",
+    usage: "",
     examples: help::HELP,
     arguments: &[
         Argument {
@@ -42,6 +44,7 @@ pub(crate) fn help_task<'a>(
     alloc: Global,
     given: &ArgMatches<'a>,
     lines: &HelpLines,
+    environment: &Environment,
 ) -> Result<Task<'a>, Error> {
     if let Some(schema) = given.get_str("schema").and_then(Schema::of_name) {
         return Ok(Task::Help(HelpText::Schema(schema)));
@@ -49,13 +52,13 @@ pub(crate) fn help_task<'a>(
     let topic = given.get_str("topic").unwrap_or("--help");
     match text_of(topic) {
         Some(text) => Ok(Task::Help(text)),
-        None => Err(command_help(alloc, topic, lines)),
+        None => Err(command_help(alloc, topic, lines, environment)),
     }
 }
 
 /// What `clap` answers a command line that asks for the help of a command.
-fn command_help(alloc: Global, name: &str, lines: &HelpLines) -> Error {
-    match matches_of(alloc, &["toxi", name, "--help"], lines).err() {
+fn command_help(alloc: Global, name: &str, lines: &HelpLines, environment: &Environment) -> Error {
+    match matches_of(alloc, &["toxi", name, "--help"], lines, environment).err() {
         Some(help) => help,
         None => incomplete(alloc),
     }

@@ -22,6 +22,7 @@ pub struct WaitArguments<'a> {
 pub(crate) const WAIT: CommandForm = CommandForm {
     name: "wait",
     about: "Waits until an address accepts a connection",
+    usage: "",
     examples: help::WAIT,
     arguments: &[
         Argument {

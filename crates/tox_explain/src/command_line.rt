@@ -4,7 +4,7 @@ use crate::toxiproxy::add_foreign_command;
 use clap::error::ErrorKind;
 use std::alloc::{AllocError, Global};
 use std::convert::AsStr;
-use tox_arguments::{Argument, COMMANDS, CommandForm};
+use tox_arguments::{Argument, COMMANDS, CommandForm, Environment};
 use tox_defs::Toxic;
 use tox_text::VisibleName;
 
@@ -13,6 +13,7 @@ pub fn advise<S: AsStr>(
     alloc: Global,
     arguments: &[S],
     kind: ErrorKind,
+    environment: &Environment,
 ) -> Result<String, AllocError> {
     let mut text = String::new(alloc);
     let Some(place) = place_of_command(arguments) else {
@@ -29,7 +30,7 @@ pub fn advise<S: AsStr>(
     if kind == ErrorKind::UnknownArgument && takes(form, "down") {
         add_lone_toxic(&mut text, arguments, place)?;
     }
-    if kind == ErrorKind::MissingRequiredArgument && lacks_seed(form, arguments) {
+    if kind == ErrorKind::MissingRequiredArgument && lacks_seed(form, arguments, environment) {
         add_seed(&mut text, form)?;
     }
     Ok(text)
@@ -105,13 +106,15 @@ fn add_lone_toxic<S: AsStr>(
     Ok(())
 }
 
-/// Whether a command needs a seed, and none is given.
-fn lacks_seed<S: AsStr>(form: &CommandForm, arguments: &[S]) -> bool {
-    takes(form, "seed")
-        && !arguments.iter().any(|argument| {
+/// Whether a command needs a seed, and neither the command line nor the environment gives it.
+fn lacks_seed<S: AsStr>(form: &CommandForm, arguments: &[S], environment: &Environment) -> bool {
+    match argument_of(form, "seed") {
+        Some(seed) if !environment.has(seed) => !arguments.iter().any(|argument| {
             let argument = argument.as_str();
             argument == "--any-seed" || argument == "--seed" || argument.starts_with("--seed=")
-        })
+        }),
+        _ => false,
+    }
 }
 
 /// Adds what a seed is, and how it needn't be given.

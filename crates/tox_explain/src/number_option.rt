@@ -3,7 +3,7 @@ use crate::command_line::takes;
 use crate::toxic_value::meant_in;
 use crate::unit::KeyUnit;
 use std::alloc::{AllocError, Global};
-use tox_arguments::{Argument, ArgumentHelp, CommandForm, NumberRange, Takes};
+use tox_arguments::{Argument, ArgumentWords, CommandForm, NumberRange, Takes};
 use tox_defs::Unit;
 
 /// Adds what an option takes, and what to write, if its value is no number in its range.
@@ -21,7 +21,7 @@ pub(crate) fn add_number_advice(
         return Ok(());
     }
     let (name, shown) = (argument.name, argument.value);
-    write!(text, "  --{name} {shown}: {}\n", ArgumentHelp(argument))?;
+    write!(text, "  --{name} {shown}: {}\n", ArgumentWords(argument))?;
     let lower = value.trim().to_lowercase(alloc)?;
     let meant = meant_number(&range, lower.as_str());
     match meant {

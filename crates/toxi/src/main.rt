@@ -6,6 +6,7 @@ mod arguments;
 mod draw;
 mod dry;
 mod due;
+mod environment;
 mod explaining;
 mod files_question;
 mod files_status;
@@ -39,6 +40,7 @@ mod warning_lines;
 mod warnings;
 mod watch;
 
+use crate::environment::set_variables;
 use crate::explaining::Explaining;
 use crate::files_question::{FilesQuestion, answer_files};
 use crate::piped_output::lacks_reader;
@@ -54,7 +56,7 @@ use std::sync::Wait;
 use std::thread::Threads;
 use std::time::Clock;
 use std::{env, io};
-use tox_arguments::{HelpLines, Task};
+use tox_arguments::{Environment, HelpLines, Task};
 use tox_explain::advise;
 use tox_proxy::VisibleName;
 
@@ -78,7 +80,10 @@ fn main(rt: HostRuntime) -> ExitCode {
     let Ok(lines) = HelpLines::new(rt.alloc()) else {
         return fail(&rt, &"L0 OutOfMemory");
     };
-    match tox_arguments::read(rt.alloc(), arguments.as_slice(), &lines) {
+    let Ok(environment) = set_variables(&rt) else {
+        return fail(&rt, &"L0 OutOfMemory");
+    };
+    match tox_arguments::read(rt.alloc(), arguments.as_slice(), &lines, &environment) {
         Ok(line) => {
             let terminals = Terminals {
                 output: rt.stdout().is_terminal(),
@@ -87,7 +92,7 @@ fn main(rt: HostRuntime) -> ExitCode {
             let explaining = Explaining::of(&rt, line.explain, terminals.errors);
             perform(&rt, explaining, terminals, &line.task)
         },
-        Err(refusal) => refuse(&rt, &refusal, arguments.as_slice()),
+        Err(refusal) => refuse(&rt, &refusal, arguments.as_slice(), &environment),
     }
 }
 
@@ -157,13 +162,14 @@ fn refuse<R: Print + Eprint + AllocGlobal>(
     rt: &R,
     refusal: &Error,
     arguments: &[String],
+    environment: &Environment,
 ) -> ExitCode {
     if refusal.kind() == ErrorKind::OutOfMemory {
         return fail(rt, &"L0 OutOfMemory");
     }
     if refusal.use_stderr() {
         print_mistake(rt, refusal);
-        if let Ok(advice) = advise(rt.alloc(), arguments, refusal.kind()) {
+        if let Ok(advice) = advise(rt.alloc(), arguments, refusal.kind(), environment) {
             let _ = eprint!(rt; "{advice}");
         }
         return ExitCode::from(refusal.exit_code() as u8);

@@ -5,7 +5,7 @@ use crate::files_status::{FileNames, fail_files};
 use crate::folder::make_folder;
 use crate::kept_files::KeptFiles;
 use crate::log_folder::LogFolder;
-use crate::notices::{PrintedNotices, send_notice};
+use crate::notices::{PrintedNotices, send_notice, tell_soon};
 use crate::output::PatientOutput;
 use crate::shutdown::Shutdown;
 use crate::toxicities::send_toxicities;
@@ -16,11 +16,11 @@ use std::fs;
 use std::rt::Files;
 use std::sync::{Mutex, Wait};
 use std::time::Clock;
-use tox_arguments::{ServeArguments, ServeSource};
+use tox_arguments::{ServeArguments, ServeSource, UsedVariable};
 use tox_explain::{Failure, Inputs};
 use tox_proxy::{
-    InlineFault, NoticeChannel, ServeFault, ServeOptions, ServeRuntime, Setup, Stop, inline_setup,
-    read_setup, serve_with, tell_waiting,
+    InlineFault, NoticeChannel, ServeFault, ServeOptions, ServeRuntime, Setup, Stop, VisibleName,
+    inline_setup, read_setup, serve_with, tell_waiting,
 };
 
 /// A file that gives and takes nothing.
@@ -45,6 +45,8 @@ enum Source {
 #[derive(Drop)]
 pub struct ServeJob {
     explaining: Explaining,
+    /// What the environment told, each as its variable has it.
+    variables: Vec<String>,
     source: Source,
     /// None: one is drawn.
     seed: Option<u64>,
@@ -65,11 +67,13 @@ impl ServeJob {
         explaining: Explaining,
         arguments: &ServeArguments<'_>,
     ) -> Result<ServeJob, InlineFault> {
+        let variables = lines_of(alloc, &arguments.variables)?;
         let source = source_of(alloc, &arguments.source)?;
         let folder = owned_where(alloc, arguments.folder)?;
         let ready = owned_where(alloc, arguments.options.ready)?;
         Ok(ServeJob {
             explaining,
+            variables,
             source,
             seed: arguments.seed,
             ready,
@@ -106,6 +110,20 @@ fn kept(options: &ServeOptions<'_>) -> ServeOptions<'static> {
     }
 }
 
+/// The line that tells of each variable.
+fn lines_of(alloc: Global, variables: &[UsedVariable<'_>]) -> Result<Vec<String>, InlineFault> {
+    let mut lines = Vec::new(alloc);
+    for variable in variables {
+        let Ok(line) = format!(in alloc; "{}={}", variable.name, VisibleName(variable.value)) else {
+            return Err(InlineFault::OutOfMemory);
+        };
+        if lines.push(line).is_err() {
+            return Err(InlineFault::OutOfMemory);
+        }
+    }
+    Ok(lines)
+}
+
 /// What is served, kept.
 fn source_of(alloc: Global, source: &ServeSource<'_>) -> Result<Source, InlineFault> {
     match source {
@@ -140,7 +158,7 @@ fn owned_where(alloc: Global, text: Option<&str>) -> Result<Option<String>, Inli
     }
 }
 
-/// Serves what is set up, and returns the status of the program.
+/// Serves what is set up, and returns the status of the program. What the environment told is told first.
 pub fn serve_job<R: Print + Eprint + Files + AllocGlobal + ServeRuntime>(
     rt: &R,
     job: &ServeJob,
@@ -150,6 +168,9 @@ where
     R::File: Send + 'static,
     R::Dir: Send + 'static,
 {
+    for line in &job.variables {
+        tell_soon(rt, line);
+    }
     match &job.source {
         Source::Inline(setup) => serve_setup(rt, job, setup, shutdown),
         Source::Files { config, script } => {
