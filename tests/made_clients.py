@@ -164,7 +164,7 @@ def rust_toxics(table):
 
 def rust_type(table, toxic):
     mine = of_type(table, toxic)
-    required = "".join(f"\n{comment(sentence(each), '        /// ')}\n        {each.name}," for each in mine if each.required)
+    required = "".join(f"\n{comment(f'`{each.name}`: {sentence(each)}', '        /// ')}\n        {each.name}," for each in mine if each.required)
     setters = [f"{comment(sentence(each), '        /// ')}\n        {each.name}," for each in mine if not each.required]
     return filled(
         RUST_TYPE, table, toxic, comment(told(toxic), "    /// "), required=required + ("\n    " if required else ""), setters="\n".join(setters)
@@ -194,6 +194,7 @@ CLIENTS = {
 VERSIONS = {
     "clients/go/program.go": version_behind('const Version = "'),
     "clients/js/package.json": version_behind('"version": "', '-x64": "', '-arm64": "'),
+    "clients/rust/Cargo.toml": version_behind('name = "toxi"\nversion = "'),
     "clients/java/pom.xml": version_behind("<artifactId>toxi</artifactId>\n  <version>"),
     "clients/java/src/main/java/invalid/toxi/Program.java": version_behind('VERSION = "'),
 }

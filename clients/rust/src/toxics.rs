@@ -18,7 +18,7 @@ toxic_type! {
 toxic_type! {
     /// Passes so many kilobytes (of 1000 bytes) a second.
     Bandwidth "bandwidth" (
-        /// how many pass each second. In kilobytes (of 1000 bytes) a second, 1 to 1,000,000; it has to be given.
+        /// `rate`: how many pass each second. In kilobytes (of 1000 bytes) a second, 1 to 1,000,000; it has to be given.
         rate,
     ) {
         /// stops at that time, and from then on all passes; 0: never. In milliseconds, 0 to 3,600,000.
@@ -61,7 +61,7 @@ toxic_type! {
 toxic_type! {
     /// Cuts data into pieces, with a wait before each.
     Slicer "slicer" (
-        /// the size of a piece. In bytes, 1 to 1,000,000; it has to be given.
+        /// `average_size`: the size of a piece. In bytes, 1 to 1,000,000; it has to be given.
         average_size,
     ) {
         /// a piece has up to so many bytes more or fewer; below average_size. In bytes.
