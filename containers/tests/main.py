@@ -12,7 +12,7 @@ import images
 from case import NETWORK, ContainerCase
 from engine import Docker, Podman
 
-TESTS = {Podman: ["image_tests", "pod_tests", "compose_tests"], Docker: ["image_tests", "compose_tests"]}
+TESTS = {Podman: ["image_tests", "pod_tests", "job_tests", "compose_tests"], Docker: ["image_tests", "compose_tests"]}
 REFUSED = 77
 
 
