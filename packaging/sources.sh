@@ -1,11 +1,11 @@
 # Sourced by tree, ../package, ../install and the tests, where `root` is the repository: what is packed beside the program.
 
 # The pages of the manual. The others are for those who change the program.
-PAGES="CAMPAIGNS CI CLOCK CONTAINERS DRAW FAULTS FINDING FROM-TOXIPROXY INSTALL MEANING PERFORMANCE PROFILE REPLAY REPORT SCRIPTS SWEEPING TESTING-WITH-TOXI TOXICS"
+PAGES="CAMPAIGNS CI CLOCK CONTAINERS DRAW FAULTS FINDING FROM-TOXIPROXY INSTALL LANGUAGES MEANING PERFORMANCE PROFILE REPLAY REPORT SCRIPTS SWEEPING TESTING-WITH-TOXI TOXICS"
 # The machines that there are programs for, as `uname -m` prints them; packaging/machines.py has the rest of each.
 MACHINES="x86_64 aarch64"
 # Folders that are packed as they are.
-FOLDERS="docs/pictures examples python/toxi"
+FOLDERS="clients docs/pictures examples python/toxi"
 
 # date_of_source: the day of the source, so that the same commit gives the same files.
 date_of_source() {
@@ -18,7 +18,8 @@ date_of_source() {
 
 # files_of NAME..: the files of the repository that have these names or are below them, without what a tool has left there.
 files_of() {
-    (cd "$root" && find "$@" -type f ! -path '*/__pycache__/*' ! -path 'python/build/*' ! -path '*.egg-info/*')
+    (cd "$root" && find "$@" -type f ! -path '*/__pycache__/*' ! -path 'python/build/*' ! -path '*.egg-info/*' ! -path 'clients/*/target/*' \
+        ! -path clients/rust/Cargo.lock)
 }
 
 # sum_of_package: the sum of what is packed beside the program, and of what packs it.

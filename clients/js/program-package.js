@@ -1,5 +1,4 @@
-#!/usr/bin/env node
-// Writes the package that carries the program for a machine. Usage: program-package.js PROGRAM CPU FOLDER, where CPU is x64 or arm64.
+// Writes the package that carries the program for a machine. Usage: node program-package.js PROGRAM CPU FOLDER, where CPU is x64 or arm64.
 "use strict";
 
 const { chmodSync, copyFileSync, mkdirSync, writeFileSync } = require("node:fs");
@@ -8,7 +7,7 @@ const { license, name, version } = require("./package.json");
 
 const [program, cpu, folder] = process.argv.slice(2);
 if (folder === undefined || !["x64", "arm64"].includes(cpu)) {
-  console.error("usage: program-package.js PROGRAM CPU FOLDER, where CPU is x64 or arm64");
+  console.error("usage: node program-package.js PROGRAM CPU FOLDER, where CPU is x64 or arm64");
   process.exit(2);
 }
 const about = { name: `${name}-linux-${cpu}`, version, description: `The program of ${name}`, license, os: ["linux"], cpu: [cpu], files: ["bin"] };
