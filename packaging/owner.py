@@ -12,6 +12,9 @@ FIELDS = {
     "source": "the URL of the repository",
     "issues": "the URL where bugs are reported",
     "contact": "who answers for the packages, as `Name <name@host>`",
+    "go": "the path of the Go module",
+    "npm": "the scope of the npm packages, with its @",
+    "maven": "the group of the jars, and the name of their Java package",
 }
 # The fields that are URLs, by what a Python package calls them.
 URLS = {"Homepage": "home", "Source": "source", "Issues": "issues"}

@@ -32,11 +32,16 @@ type process struct {
 	totals    []Total
 }
 
+// environment is that of the program: this process's without options of `serve`, since those of a suite are its own. Explanations of faults are asked for
+// unless it refuses them.
 func environment() []string {
-	if _, set := os.LookupEnv("TOXI_EXPLAIN"); set {
-		return os.Environ()
+	kept := []string{"TOXI_EXPLAIN=1"}
+	for _, variable := range os.Environ() {
+		if !strings.HasPrefix(variable, "TOXI_") || strings.HasPrefix(variable, "TOXI_EXPLAIN=") {
+			kept = append(kept, variable)
+		}
 	}
-	return append(os.Environ(), "TOXI_EXPLAIN=1")
+	return kept
 }
 
 func startProcess(words []string) (*process, error) {

@@ -17,7 +17,7 @@ import (
 const (
 	size     = 1000
 	patience = 30 * time.Second
-	short    = 300 * time.Millisecond
+	short    = 2 * time.Second
 )
 
 var service string
@@ -26,6 +26,8 @@ func TestMain(m *testing.M) {
 	if address := os.Getenv("TOXI_TEST_SERVED"); address != "" {
 		serveUntilKilled(address)
 	}
+	// An option of `serve` that isn't the suite's.
+	os.Setenv("TOXI_WORKERS", "none")
 	service = startService()
 	os.Exit(m.Run())
 }

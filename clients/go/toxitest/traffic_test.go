@@ -95,8 +95,10 @@ func TestEveryToxicIsTaken(t *testing.T) {
 
 func TestAShareIsWholeThousandths(t *testing.T) {
 	t.Parallel()
-	expect(t, toxi.Share(0.1+0.2), "0.3")
-	toxitest.New(t, shop(toxi.Latency{Common: toxi.Common{Toxicity: toxi.Share(0.1 + 0.2)}, Latency: 1}))
+	// A sum of constants would be exact.
+	tenth, fifth := 0.1, 0.2
+	expect(t, toxi.Share(tenth+fifth), "0.3")
+	toxitest.New(t, shop(toxi.Latency{Common: toxi.Common{Toxicity: toxi.Share(tenth + fifth)}, Latency: 1}))
 	_, err := toxi.Start(shop(toxi.Latency{Common: toxi.Common{Toxicity: toxi.Share(0.0005)}, Latency: 1}))
 	expectError(t, err, "S7 ToxicityNotThousandths")
 }

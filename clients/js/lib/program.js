@@ -6,8 +6,13 @@ const { stat } = require("node:fs/promises");
 const { name: PACKAGE, version: VERSION } = require("../package.json");
 const { errorOf } = require("./errors.js");
 
-// The environment of the program, in which explanations of faults are asked for.
-const environment = () => ({ TOXI_EXPLAIN: "1", ...process.env });
+// The environment of the program: this process's without options of `serve`, since those of a suite are its own. Explanations of faults are asked for unless it
+// refuses them.
+function environment() {
+  const kept = Object.entries(process.env).filter(([name]) => !name.startsWith("TOXI_") || name === "TOXI_EXPLAIN");
+  return { TOXI_EXPLAIN: "1", ...Object.fromEntries(kept) };
+}
+
 const versions = new Map();
 
 // What a command prints on standard output. Rejects where it fails.

@@ -9,7 +9,10 @@ const { toxiFor } = require("../test.js");
 
 const SIZE = 1000;
 const PATIENCE = 30_000;
-const SHORT = 300;
+const SHORT = 2000;
+
+// An option of `serve` that isn't the suite's.
+process.env.TOXI_WORKERS = "none";
 
 const service = (async () => {
   const server = createServer((client) => {

@@ -40,10 +40,16 @@ fn version_of(program: &str) -> Result<String, Error> {
     Ok(version)
 }
 
-/// A command of the program, in whose environment explanations of faults are asked for.
+/// A command of the program. Its environment is this process's without options of `serve`, since those of a suite are its own. Explanations of faults are
+/// asked for unless it refuses them.
 pub(crate) fn command<S: AsRef<OsStr>>(program: &str, words: impl IntoIterator<Item = S>) -> Command {
     let mut command = Command::new(program);
     command.args(words);
+    for (name, _) in std::env::vars_os() {
+        if name.as_encoded_bytes().starts_with(b"TOXI_") && name != "TOXI_EXPLAIN" {
+            command.env_remove(name);
+        }
+    }
     if std::env::var_os("TOXI_EXPLAIN").is_none() {
         command.env("TOXI_EXPLAIN", "1");
     }

@@ -24,7 +24,7 @@ fn folder(test: &str) -> PathBuf {
 /// This program, with one of its tests that aren't run otherwise.
 fn other_test(name: &str) -> Command {
     let mut command = Command::new(env::current_exe().unwrap());
-    command.args(["--ignored", "--exact", name]).env_remove("TOXI_SEED").env("TOXI_TEST_UPSTREAM", service());
+    command.args(["--ignored", "--exact", name]).env_remove("TOXI_SEED").env("TOXI_WORKERS", "none").env("TOXI_TEST_UPSTREAM", service());
     command
 }
 

@@ -10,7 +10,7 @@ use toxi::{Config, Guard, Proxy, Rule, Toxic};
 
 pub const SIZE: usize = 1000;
 pub const PATIENCE: Duration = Duration::from_secs(30);
-pub const SHORT: Duration = Duration::from_millis(300);
+pub const SHORT: Duration = Duration::from_secs(2);
 
 pub fn service() -> &'static str {
     static ADDRESS: OnceLock<String> = OnceLock::new();

@@ -93,9 +93,13 @@ final class Program {
         return words[1];
     }
 
-    /** Starts a command, in whose environment explanations of faults are asked for. */
+    /**
+     * Starts a command. Its environment is this process's without options of {@code serve}, since those of a suite are its own. Explanations of faults are
+     * asked for unless it refuses them.
+     */
     static Process start(List<String> command) {
         ProcessBuilder builder = new ProcessBuilder(command);
+        builder.environment().keySet().removeIf(name -> name.startsWith("TOXI_") && !name.equals("TOXI_EXPLAIN"));
         builder.environment().putIfAbsent("TOXI_EXPLAIN", "1");
         try {
             return builder.start();

@@ -105,7 +105,7 @@ final class LifeTest {
 
     @Test
     void theSeedComesFromTheEnvironment() throws Exception {
-        Process other = ServedCase.start(Map.of("TOXI_SEED", "18446744073709551615"));
+        Process other = ServedCase.start(Map.of("TOXI_SEED", "18446744073709551615", "TOXI_WORKERS", "none"));
         try {
             assertEquals("18446744073709551615", firstLine(other).split(" ")[1]);
         } finally {

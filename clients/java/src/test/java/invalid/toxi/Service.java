@@ -15,7 +15,7 @@ import java.util.concurrent.Callable;
 final class Service {
     static final int SIZE = 1000;
     static final int PATIENCE = 30_000;
-    static final int SHORT = 300;
+    static final int SHORT = 2000;
     static final String ADDRESS;
 
     static {
