@@ -1,4 +1,4 @@
-"""The indexed Job of examples/campaign: its pods, one after the other, by `podman kube play`. What makes them of the Job is a cluster's controller, and here a loop."""
+"""The indexed Job of examples/campaign: its pods, one after the other, by `podman kube play`. In a cluster a controller makes them, and here a loop does."""
 import importlib.util
 import os
 import shutil

@@ -10,6 +10,7 @@ import tempfile
 import unittest
 import xml.dom.minidom
 import xml.etree.ElementTree
+from dataclasses import replace
 from pathlib import Path
 from unittest import mock
 
@@ -94,6 +95,11 @@ class PretendedTests(Pretended):
             self.assertEqual(sum(map(len, parts)), len(whole), of)
             self.assertEqual(set().union(*parts), whole, of)
 
+    def test_a_conversation_of_another_client_is_refused(self):
+        other = KeptConversation(("shop",), Conversation([replace(stream, proxy="mail") for stream in self.given.conversation.streams]))
+        with self.assertRaisesRegex(ToxiError, "^the client connects to shop, and in the conversation that it was given to mail$"):
+            self.tried(Shard(), other)
+
     def sweep(self, shard, most):
         choose = chooser((*SWEPT, "sliced"), most, False, WITHIN, 1)
         sweeping = Sweeping(SETUP, choose, lambda outcomes: JUDGE, most=most, about=self.about(SWEEP, shard), given=self.given)
@@ -173,7 +179,7 @@ class MergingTests(unittest.TestCase):
                 (result_of(shard="1/2"), result_of(shard="1/3")),
                 ["foreign: 2.json isn't of the search of 1.json: it is one of 3 shards, not of 2", "missing: shard 2/2 of 'reads'"],
             ),
-            ((result_of(upstreams=["shop"]), result_of(upstreams=["a", "b"])), ["foreign: 2.json isn't of the search of 1.json: its upstreams are a, b, not shop"]),
+            ((result_of(), result_of(upstreams=["a", "b"])), ["foreign: 2.json isn't of the search of 1.json: its upstreams are a, b, not shop"]),
         ):
             with self.subTest(told):
                 self.assertEqual(self.merged(*results), (2, "", "".join(f"toxi-merge: {line}\n" for line in told)))
@@ -199,7 +205,8 @@ class ConversationFileTests(unittest.TestCase):
         path = Path(self.enterContext(tempfile.TemporaryDirectory()), "conversation.json")
         with self.assertRaisesRegex(ToxiError, "conversation.json can't be read as a conversation: FileNotFoundError"):
             read_conversation(path)
-        for text, told in (("{", "can't be read as a conversation"), ('{"version": "0.1.0"}', "was written by toxi 0.1.0, and this is "), ("[]", "can't be read")):
+        older = '{"version": "0.1.0"}', "was written by toxi 0.1.0, and this is "
+        for text, told in (("{", "can't be read as a conversation"), older, ("[]", "can't be read")):
             path.write_text(text)
             with self.assertRaisesRegex(ToxiError, told):
                 read_conversation(path)
@@ -269,7 +276,8 @@ class SocketTests(Searching):
         for shard in ("1", "2"):
             words = ("--runs", "5", "--conversation", "kept.json", "--shard", f"{shard}/2", "--json", f"{shard}.json", "--folder", f"found-{shard}")
             self.assertEqual(self.ran("find", CUT, *words).returncode, 1)
-        ran = self.merged("1.json", "2.json", "--json", "merged.json", "--page", "page.html", "--junit", "junit.xml", GITHUB_STEP_SUMMARY=f"{self.folder}/summary.md")
+        files = ("--json", "merged.json", "--page", "page.html", "--junit", "junit.xml")
+        ran = self.merged("1.json", "2.json", *files, GITHUB_STEP_SUMMARY=f"{self.folder}/summary.md")
         self.assertEqual((ran.returncode, ran.stderr), (1, ""))
         self.assertTrue(ran.stdout.startswith("status 1 in 20 of 20 runs, "), ran.stdout)
         (found,) = self.results("merged.json")[0]["found"]

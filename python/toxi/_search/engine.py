@@ -70,6 +70,10 @@ class Engine:
         finally:
             if self.pool is not None:
                 self.pool.close()
+        return self._result(ended_by)
+
+    def _result(self, ended_by: str) -> SearchResult:
+        searching = self._searching
         known = searching.conversation
         return SearchResult(
             tuple(self._found),

@@ -111,6 +111,8 @@ class Runner:
         most = max(len(run.links) for run in runs)
         shares = len(more) > 1 and all(_is_right(run) and len(run.links) >= most for run in more)
         self.setup = replace(self.setup, keeps_logs=self.judge.reads_runs, shares_threads=shares)
+        if given is not None:
+            _require_alike(given, runs)
         known = _conversation_of([*runs, *filter(_is_right, more)]) if given is None else given
         self._recorded = set(known.by_key)
         return known
@@ -238,6 +240,13 @@ class Runner:
         tally = self.tallies.setdefault(place, Tally())
         tally.runs += 1
         tally.reached += reached
+
+
+def _require_alike(given: Conversation, runs: Iterable[BatchRun]) -> None:
+    """Raises `ToxiError` where a conversation is that of another client. How many connections one makes may change by itself."""
+    made = sorted({link.proxy for run in runs for link in run.links})
+    if made != sorted(given.proxies):
+        raise ToxiError(f"the client connects to {', '.join(made)}, and in the conversation that it was given to {', '.join(given.proxies) or 'none'}")
 
 
 def _conversation_of(runs: Iterable[BatchRun]) -> Conversation:
