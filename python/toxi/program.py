@@ -6,12 +6,14 @@ import re
 import shutil
 import subprocess
 from pathlib import Path
-from typing import Dict, Iterator, Optional
+from typing import Dict, Iterator, Optional, Tuple
 
 from . import __version__
 from .errors import ToxiError
 
 PACKAGE = Path(__file__).parent
+# What `serve` would take in place of options that aren't given. The options of a suite are its own.
+SERVE_VARIABLES: Tuple[str, ...] = ("TOXI_CONFIG", "TOXI_SCRIPT", "TOXI_SEED", "TOXI_WORKERS")
 # A clone's ./toxi may compile the program first. In seconds.
 VERSION_LIMIT = 300
 
@@ -52,8 +54,8 @@ def _places() -> Iterator[Path]:
 
 
 def environment() -> Dict[str, str]:
-    """The environment of the program: this process's, in which explanations of faults are asked for unless it refuses them."""
-    return {"TOXI_EXPLAIN": "1", **os.environ}
+    """The environment of the program: this process's without options of `serve`. Explanations of faults are asked for unless it refuses them."""
+    return {"TOXI_EXPLAIN": "1", **{name: value for name, value in os.environ.items() if name not in SERVE_VARIABLES}}
 
 
 def startable(program: str) -> str:

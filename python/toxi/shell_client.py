@@ -12,12 +12,13 @@ import tempfile
 import threading
 from dataclasses import dataclass
 from pathlib import Path
-from typing import IO, Any, Callable, Dict, FrozenSet, Iterable, List, Mapping, Optional, Sequence, Set, Union
+from typing import IO, Any, Callable, Dict, FrozenSet, Iterable, List, Mapping, Optional, Sequence, Set, Tuple, Union
 
 from ._search.client_run import ClientRun
 from .errors import ToxiError
 from .outcomes import RIGHT, WRONG, Addresses, StartedRun, Equals, Judge, Kind, Outcome, Startable, Verdict
 from .process import tied_to_parent
+from .program import SERVE_VARIABLES
 
 # How long a command may take to end by SIGTERM before SIGKILL, in seconds.
 TERM_LIMIT = 1.0
@@ -28,16 +29,22 @@ MAX_SAID = 4096
 Output = Union[int, IO[Any], None]
 
 
+# Variables that the program and the commands of the package read themselves.
+OWN_VARIABLES: Tuple[str, ...] = (*SERVE_VARIABLES, "TOXI_EXPLAIN", "TOXI_RUN")
+
+
 def variable_of(proxy: str) -> str:
     """The variable with the address of a proxy: `TOXI_<NAME>`, the name in upper case, with `_` for other characters."""
     return "TOXI_" + re.sub("[^A-Za-z0-9]", "_", proxy).upper()
 
 
 def variables_of(addresses: Mapping[str, object]) -> Dict[str, str]:
-    """The variables of proxies with their addresses, `host:port`. Raises `ToxiError` where two proxies have one variable."""
+    """The variables of proxies with their addresses, `host:port`. Raises `ToxiError` where two proxies have one variable, or Toxi itself reads it."""
     found: Dict[str, str] = {}
     for proxy, address in addresses.items():
         variable = variable_of(proxy)
+        if variable in OWN_VARIABLES:
+            raise ToxiError(f"the variable of {proxy!r} would be {variable}, which Toxi itself reads: choose another name")
         if variable in found:
             raise ToxiError(f"two proxies have the variable {variable}")
         found[variable] = str(address)

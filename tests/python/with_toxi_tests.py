@@ -147,5 +147,10 @@ class WithToxiTests(unittest.TestCase):
         self.proxies(["a.b", "a-b"])
         ran = self.run_it("true")
         self.assertEqual((ran.returncode, ran.stderr), (2, "with-toxi: two proxies have the variable TOXI_A_B\n"))
+        for name in ("seed", "Config", "explain"):
+            self.proxies([name])
+            ran = self.run_it("true")
+            self.assertEqual(ran.returncode, 2)
+            self.assertIn(f"the variable of '{name}' would be TOXI_{name.upper()}, which Toxi itself reads", ran.stderr)
         ran = subprocess.run([WITH_TOXI, "p.json"], capture_output=True, check=False)
         self.assertEqual(ran.returncode, 2)
