@@ -9,8 +9,9 @@ The program checks the values when it reads the script, so a wrong one raises a 
 tests/tables of the program's own table.
 """
 from dataclasses import dataclass
+from typing import TYPE_CHECKING, Optional
 
-from ._toxic import Toxic, Toxicity
+from ._toxic import REQUIRED, Stream, Toxic, Toxicity
 
 __all__ = [{names}]
 
@@ -28,6 +29,19 @@ class {name}(Toxic):
 
     type = "{type}"
 {fields}
+'''
+# Fields with defaults of the base class stand before, so a checker of types is told by a signature what has to be given.
+SIGNATURE = '''
+    if TYPE_CHECKING:
+
+        def __init__(
+            self,
+            *,
+{parameters}
+            name: Optional[str] = None,
+            stream: Stream = "downstream",
+            toxicity: Optional[Toxicity] = None,
+        ) -> None: ...
 '''
 
 
@@ -61,19 +75,36 @@ def python_attribute(attribute):
     return f"    `{field_name(attribute)}`: {sentence(attribute)}"
 
 
+def python_default(attribute):
+    return "REQUIRED" if attribute.required else attribute.default
+
+
+def python_parameter(attribute):
+    default = "" if attribute.required else f" = {attribute.default}"
+    return f"            {field_name(attribute)}: int{default},"
+
+
+def python_signature(table, toxic):
+    """The signature of a type that has attributes which have to be given. The others need none."""
+    attributes = of_type(table, toxic)
+    if not any(attribute.required for attribute in attributes):
+        return ""
+    return SIGNATURE.format(parameters="\n".join(map(python_parameter, attributes)))
+
+
 def python_class(table, toxic):
     return CLASS.format(
         name=class_name(toxic),
         words=toxic.words[0].upper() + toxic.words[1:],
         attributes="\n".join(python_attribute(attribute) for attribute in of_type(table, toxic)),
         type=toxic.name,
-        fields="\n".join(f"    {field_name(attribute)}: int = {attribute.default}" for attribute in of_type(table, toxic)),
-    )
+        fields="\n".join(f"    {field_name(attribute)}: int = {python_default(attribute)}" for attribute in of_type(table, toxic)),
+    ) + python_signature(table, toxic)
 
 
 def python_toxics(table):
     """The file of the Python package with a class for each type."""
-    names = ["Toxic", "Toxicity"] + [class_name(toxic) for toxic in table.toxics]
+    names = ["Stream", "Toxic", "Toxicity"] + [class_name(toxic) for toxic in table.toxics]
     max_ms = max(attribute.most for attribute in table.attributes if attribute.unit == "milliseconds")
     return HEAD.format(names=", ".join(f'"{name}"' for name in sorted(names)), max_ms=max_ms) + "".join(python_class(table, toxic) for toxic in table.toxics)
 

@@ -1,7 +1,8 @@
 """A setup as proxies and rules."""
 import decimal
 import re
-from typing import Any, Dict, List, Optional, Tuple, Type
+from dataclasses import fields
+from typing import Any, Dict, List, Optional, Set, Tuple, Type
 
 from toxi import Bandwidth, Latency, LimitData, Proxy, ResetPeer, Rule, Slicer, SlowClose, Timeout, Toxic
 from toxi.lines import printed
@@ -52,10 +53,10 @@ def _toxic(entry: Entry, place: str, setup: Setup) -> Optional[Toxic]:
         setup.miss(place, f"there is no toxic `{entry.get('type')}`")
         return None
     toxicity = _toxicity(entry.get("toxicity"), place, setup)
-    known = kind().attributes()
+    known = _attributes(kind)
     attributes: Dict[str, Any] = {}
     for key, value in (entry.get("attributes") or {}).items():
-        if key not in known or key == "until":
+        if key not in known:
             setup.miss(place, f"`{kind.type}` has no attribute `{key}`")
         elif not re.fullmatch(r"\d+", str(value)):
             setup.miss(place, f"`{key}` is {value}, no whole number")
@@ -65,8 +66,14 @@ def _toxic(entry: Entry, place: str, setup: Setup) -> Optional[Toxic]:
     if kind is Bandwidth and attributes.get("rate") == 0:
         setup.miss(place, "`rate` is 0, which limits nothing in Toxiproxy: the toxic is left out")
         return None
-    stream = (entry.get("stream") or "downstream").lower()
+    # The program refuses another one.
+    stream: Any = (entry.get("stream") or "downstream").lower()
     return kind(name=entry.get("name") or None, stream=stream, toxicity=toxicity, **attributes)
+
+
+def _attributes(kind: Type[Toxic]) -> Set[str]:
+    """The attributes of a type that Toxiproxy has too: those that stand in every script."""
+    return {field.name for field in fields(kind)} - {field.name for field in fields(Toxic)} - {"until", "from_", "after"}
 
 
 def _toxicity(value: object, place: str, setup: Setup) -> Optional[float]:

@@ -1,11 +1,14 @@
 """What every toxic of a rule has."""
 from dataclasses import dataclass, fields
-from typing import Any, ClassVar, Dict, Optional, Union
+from typing import Any, ClassVar, Dict, Literal, Optional, Union
 
 from .reprs import repr_without_defaults
 from .thousandths import warn_of_percent
 
 Toxicity = Union[int, float, str]
+Stream = Literal["upstream", "downstream"]
+# Stands for an attribute that has to be given.
+REQUIRED: Any = object()
 # Attributes that stand in a script only where they aren't 0.
 OMITTED_AT_ZERO = ("until", "from", "after")
 TOXICITY_OF_ONE = (
@@ -22,13 +25,13 @@ class Toxic:
     absent, every link meets it. The whole number 1 is refused by a ValueError, since it reads as both 1.0 and 0.001, and one of 2 to 100
     is a `ToxiWarning`, since it reads as percent too: `thousandths(30)` says what is meant.
 
-    Raises `TypeError` for a value without its name, and for a name that the toxic doesn't have.
+    Raises `TypeError` for a value without its name, for a name that the toxic doesn't have, and where one that it needs is missing.
     """
 
     type: ClassVar[str]
 
     name: Optional[str] = None
-    stream: str = "downstream"
+    stream: Stream = "downstream"
     toxicity: Optional[Toxicity] = None
 
     # Dataclasses have keyword-only fields from Python 3.10 on.
@@ -42,6 +45,9 @@ class Toxic:
         return super().__new__(cls)
 
     def __post_init__(self) -> None:
+        missing = [field.name for field in fields(self) if getattr(self, field.name) is REQUIRED]
+        if missing:
+            raise TypeError(f"{type(self).__name__} needs {', '.join(missing)}")
         if type(self.toxicity) is int and self.toxicity == 1:
             raise ValueError(TOXICITY_OF_ONE)
         # The call that makes a toxic stands two levels above: its __init__ calls this.

@@ -6,6 +6,7 @@ from typing import Dict, Iterable, List, Optional, Tuple, Union
 
 from .checks import judge_findings
 from .commands import Answer
+from .connect_timeouts import ConnectTimeout, milliseconds
 from .errors import ToxiEnded, ToxiError, error_of
 from .lines import Address, Link, Total, printed
 from .places import kept_rules
@@ -16,9 +17,10 @@ from .rules import Rule
 from .runs import Position, Run
 from .seconds import seconds
 from .seeds import checked_seed
+from .toxics import Stream
 
 StrPath = Union[str, "os.PathLike[str]"]
-STREAMS: Tuple[str, str] = ("upstream", "downstream")
+STREAMS: Tuple[Stream, Stream] = ("upstream", "downstream")
 # A clone's ./toxi compiles itself first. In seconds.
 START_LIMIT = 300.0
 # Between two looks whether the program has stopped listening, in seconds.
@@ -38,7 +40,7 @@ class ToxiBase:
         directory: Optional[StrPath] = None,
         links: Optional[int] = None,
         workers: Optional[int] = None,
-        connect_timeout: Optional[int] = None,
+        connect_timeout: ConnectTimeout = None,
         log: Optional[StrPath] = None,
         start_timeout: float = START_LIMIT,
     ) -> None:
@@ -50,7 +52,7 @@ class ToxiBase:
         self._own_directory: Optional["tempfile.TemporaryDirectory[str]"] = None
         self._start_timeout = seconds("start_timeout", start_timeout)
         self._log = None if log is None else Path(log)
-        numbers = (("--links", links), ("--workers", workers), ("--connect-timeout", connect_timeout))
+        numbers = (("--links", links), ("--workers", workers), ("--connect-timeout", milliseconds(connect_timeout)))
         self._options = [word for option, value in numbers if value is not None for word in (option, str(value))]
         self._runs: List[Run] = []
         self._addresses: Dict[str, Address] = {}

@@ -6,6 +6,7 @@ from typing import Any, Callable, Dict, Iterable, List, Mapping, Optional, Seque
 from ._search.result import SearchResult
 from ._search.search import Search
 from .base import START_LIMIT, StrPath
+from .connect_timeouts import ConnectTimeout
 from .client_results import Result
 from .finding import BUDGET, RUNS, first_found
 from .found import Found
@@ -72,11 +73,11 @@ class ToxiFactory:
         directory: Optional[StrPath] = None,
         links: Optional[int] = None,
         workers: Optional[int] = None,
-        connect_timeout: Optional[int] = None,
+        connect_timeout: ConnectTimeout = None,
         log: Optional[StrPath] = None,
         start_timeout: float = START_LIMIT,
     ) -> Toxi:
-        """Starts a `Toxi`, whose options these are. `connect_timeout` is in milliseconds, `start_timeout` in seconds.
+        """Starts a `Toxi`, whose options these are. `connect_timeout` is in milliseconds or a `timedelta`, `start_timeout` in seconds.
 
         What isn't given is the fixture's: the seed, the program, the number of workers, and folders for its files and its logs.
         """

@@ -1,13 +1,13 @@
 """Where a sweep lets a fault come: a fault behind so many bytes of a stream of a numbered connection, or of all."""
 import re
 from dataclasses import dataclass
-from typing import Optional, Tuple
+from typing import Optional, Tuple, cast
 
 from ._search.words import DELAYS, ENDINGS, FAULTS
 from .base import STREAMS
 from .conversations import StreamBytes
 from .rules import Rule
-from .toxics import Latency, LimitData, ResetPeer, Slicer, Timeout, Toxic
+from .toxics import Latency, LimitData, ResetPeer, Slicer, Stream, Timeout, Toxic
 
 MICROS = 1_000_000
 # Microseconds of a millisecond.
@@ -75,16 +75,17 @@ class FaultPoint:
     @property
     def toxic(self) -> Toxic:
         """The toxic that does it. One behind 0 bytes works from the start."""
+        stream = cast(Stream, self.stream)
         if self.fault == "closed":
-            return LimitData(stream=self.stream, bytes=self.offset)
+            return LimitData(stream=stream, bytes=self.offset)
         if self.fault == "reset":
-            return ResetPeer(stream=self.stream, after=self.offset)
+            return ResetPeer(stream=stream, after=self.offset)
         if self.fault == "silent":
-            return Timeout(stream=self.stream, after=self.offset)
+            return Timeout(stream=stream, after=self.offset)
         if self.fault == "sliced":
-            return Slicer(stream=self.stream, average_size=self.offset, delay=self.delay)
+            return Slicer(stream=stream, average_size=self.offset, delay=self.delay)
         begin, end = self.window
-        return Latency(stream=self.stream, latency=self.delay // 1000, from_=begin, until=end)
+        return Latency(stream=stream, latency=self.delay // 1000, from_=begin, until=end)
 
     def rule(self, proxy: str) -> Rule:
         """The rule that lets it come, on a proxy of this name."""

@@ -26,8 +26,8 @@ class Toxi(ToxiBase):
 
     `program` is the path of the program, else `$TOXI`, else the package's own, else `toxi` on the PATH; where it isn't given, the
     program must be of this package's version. The files are written into `directory`,
-    or into a new one that goes away at the end. `links`, `workers` and `connect_timeout` (milliseconds) are the options
-    of `serve`. With `log` each stream of each link is logged in that folder, which is made or must be empty. The program has
+    or into a new one that goes away at the end. `links`, `workers` and `connect_timeout` (milliseconds, or a `timedelta`) are the
+    options of `serve`. With `log` each stream of each link is logged in that folder, which is made or must be empty. The program has
     `start_timeout` seconds until it listens: a clone's ./toxi compiles itself first.
 
     Raises `ToxiFault` at the start where the program refuses its files, and `ToxiError` where a rule is for a proxy that isn't

@@ -4,10 +4,11 @@ The program checks the values when it reads the script, so a wrong one raises a 
 tests/tables of the program's own table.
 """
 from dataclasses import dataclass
+from typing import TYPE_CHECKING, Optional
 
-from ._toxic import Toxic, Toxicity
+from ._toxic import REQUIRED, Stream, Toxic, Toxicity
 
-__all__ = ["Bandwidth", "Latency", "LimitData", "ResetPeer", "Slicer", "SlowClose", "Timeout", "Toxic", "Toxicity"]
+__all__ = ["Bandwidth", "Latency", "LimitData", "ResetPeer", "Slicer", "SlowClose", "Stream", "Timeout", "Toxic", "Toxicity"]
 
 # The longest time that a toxic takes, in milliseconds.
 MAX_MS = 3_600_000
@@ -40,9 +41,22 @@ class Bandwidth(Toxic):
     """
 
     type = "bandwidth"
-    rate: int = 0
+    rate: int = REQUIRED
     until: int = 0
     from_: int = 0
+
+    if TYPE_CHECKING:
+
+        def __init__(
+            self,
+            *,
+            rate: int,
+            until: int = 0,
+            from_: int = 0,
+            name: Optional[str] = None,
+            stream: Stream = "downstream",
+            toxicity: Optional[Toxicity] = None,
+        ) -> None: ...
 
 
 @dataclass(frozen=True, repr=False)
@@ -96,11 +110,26 @@ class Slicer(Toxic):
     """
 
     type = "slicer"
-    average_size: int = 0
+    average_size: int = REQUIRED
     size_variation: int = 0
     delay: int = 0
     until: int = 0
     from_: int = 0
+
+    if TYPE_CHECKING:
+
+        def __init__(
+            self,
+            *,
+            average_size: int,
+            size_variation: int = 0,
+            delay: int = 0,
+            until: int = 0,
+            from_: int = 0,
+            name: Optional[str] = None,
+            stream: Stream = "downstream",
+            toxicity: Optional[Toxicity] = None,
+        ) -> None: ...
 
 
 @dataclass(frozen=True, repr=False)

@@ -1,8 +1,12 @@
 """Rules as they are written in Python, what is wrong with them, and names of proxies. Needs nothing installed."""
+import os
+import pickle
 import unittest
 import warnings
+from datetime import timedelta
+from unittest import mock
 
-from toxi import Latency, Proxy, ResetPeer, Rule, Slicer, Timeout, Toxi, ToxiError, ToxiFault, ToxiWarning, script_text, thousandths
+from toxi import Bandwidth, Latency, Proxy, ResetPeer, Rule, Slicer, Timeout, Toxi, ToxiError, ToxiFault, ToxiWarning, script_text, thousandths
 
 # Nothing listens there: port 1 of this machine.
 NOWHERE = {"shop": "127.0.0.1:1"}
@@ -24,6 +28,30 @@ class WrittenTests(unittest.TestCase):
                 Latency(*values)
         with self.assertRaisesRegex(TypeError, "Latency has no 'delay'; it has name, stream, toxicity, latency, jitter, until, from_$"):
             Latency(delay=100)
+
+    def test_what_has_no_default_is_given(self):
+        for kind, values, missing in ((Bandwidth, {}, "rate"), (Slicer, {"delay": 1}, "average_size")):
+            with self.assertRaisesRegex(TypeError, f"^{kind.__name__} needs {missing}$"):
+                kind(**values)
+        self.assertEqual(pickle.loads(pickle.dumps(Bandwidth(rate=5))), Bandwidth(rate=5))
+
+    def test_a_connect_timeout_has_a_unit(self):
+        for wrong in (0.5, "500", True):
+            with self.assertRaisesRegex(TypeError, "^connect_timeout is a whole number of milliseconds or a timedelta, not "):
+                Toxi(NOWHERE, connect_timeout=wrong)
+        with self.assertWarnsRegex(ToxiWarning, r"^connect_timeout=5 is in milliseconds: write timedelta\(seconds=5\)") as caught:
+            Toxi(NOWHERE, connect_timeout=5)
+        self.assertEqual(caught.filename, __file__)
+        with warnings.catch_warnings():
+            warnings.simplefilter("error")
+            for given, milliseconds in ((timedelta(seconds=0.5), 500), (timedelta(microseconds=1001), 2), (50, 50)):
+                with Toxi(NOWHERE, connect_timeout=given) as toxi:
+                    self.assertIn(f"--connect-timeout {milliseconds}", " ".join(toxi.command))
+
+    def test_the_environment_gives_no_option(self):
+        with mock.patch.dict(os.environ, {name: "none" for name in ("TOXI_CONFIG", "TOXI_SCRIPT", "TOXI_SEED", "TOXI_WORKERS")}):
+            with Toxi(NOWHERE) as toxi:
+                self.assertEqual(toxi.seed, 1)
 
     def test_rules_are_a_list(self):
         for wrong in (Rule("shop"), None, 3):

@@ -2,12 +2,12 @@
 import itertools
 import struct
 from dataclasses import dataclass
-from typing import Dict, Iterator, List, Optional, Sequence, Set, Tuple
+from typing import Dict, Iterator, List, Optional, Sequence, Set, Tuple, cast
 
 from ..conversations import StreamBytes
 from ..delays import Delays
 from ..rules import Rule
-from ..toxics import MAX_MS, Bandwidth, Latency, LimitData, ResetPeer, Slicer, SlowClose, Timeout, Toxic
+from ..toxics import MAX_MS, Bandwidth, Latency, LimitData, ResetPeer, Slicer, SlowClose, Stream, Timeout, Toxic
 from .cases import Case, word_of
 from .conversation import Conversation
 from .running import Called
@@ -110,23 +110,23 @@ class Drawing:
         return Case(tuple(Rule(proxy, toxics, first=first, last=last or None) for (proxy, first, last), toxics in ordered))
 
     def _toxic(self, kind: str, stream: StreamBytes, place: Tuple[int, int], delay: int) -> Toxic:
-        offset, time = _offset(stream, *place), self._time(delay)
+        offset, time, name = _offset(stream, *place), self._time(delay), cast(Stream, stream.stream)
         if kind == "limit_data":
-            return LimitData(stream=stream.stream, bytes=offset)
+            return LimitData(stream=name, bytes=offset)
         if kind == "reset_peer":
-            return ResetPeer(stream=stream.stream, after=offset)
+            return ResetPeer(stream=name, after=offset)
         if kind == "timeout":
-            return Timeout(stream=stream.stream, after=offset)
+            return Timeout(stream=name, after=offset)
         if kind == "latency":
             begin, end = _window(stream, place[1], time)
-            return Latency(stream=stream.stream, latency=time, from_=begin, until=end)
+            return Latency(stream=name, latency=time, from_=begin, until=end)
         if kind == "slow_close":
-            return SlowClose(stream=stream.stream, delay=time)
+            return SlowClose(stream=name, delay=time)
         if kind == "bandwidth":
             lowest = self._delays.lowest_rate()
-            return Bandwidth(stream=stream.stream, rate=min(1_000_000, lowest * (1 + place[1] % 20)))
+            return Bandwidth(stream=name, rate=min(1_000_000, lowest * (1 + place[1] % 20)))
         size = max(1, min(offset, max(stream.pieces, default=1)))
-        return Slicer(stream=stream.stream, average_size=size, delay=min(self._delays.longest_pause(size), time * 1000))
+        return Slicer(stream=name, average_size=size, delay=min(self._delays.longest_pause(size), time * 1000))
 
     def _time(self, part: int) -> int:
         """A delay in milliseconds: near a time limit of the client, or in the whole band up to its limit and past it."""
