@@ -11,12 +11,13 @@ from typing import Any, Dict, Generator, Iterator, List, Mapping, Optional
 
 import pytest
 
+from . import __version__
 from .artifacts import attempt_folder
 from .factory import Begun, ToxiFactory
 from .fixture_factory import RememberingFactory
 from .pytest_report import Fixture, Section
 from .pytest_results import NAME, SessionResults, give_results
-from .pytest_settings import add_settings, file_of, settings_of
+from .pytest_settings import MARK, add_settings, file_of, require_artifacts, settings_at, settings_of
 
 # The command line's seeds are 64 bits. Drawn ones are short enough to be typed.
 DRAWN_BITS = 32
@@ -36,8 +37,17 @@ def pytest_addoption(parser: pytest.Parser) -> None:
 
 def pytest_configure(config: pytest.Config) -> None:
     """Takes the results of searches and sweeps, but not in a worker of pytest-xdist."""
+    config.addinivalue_line("markers", f"{MARK}(seed=, workers=): the seed and the number of workers of the test's toxi fixtures")
+    require_artifacts(config)
     if not hasattr(config, "workerinput"):
         config.pluginmanager.register(SessionResults(file_of(config, "json"), file_of(config, "page")), NAME)
+
+
+def pytest_report_header(config: pytest.Config) -> str:
+    """The version, the seed and the workers of the session."""
+    settings = settings_of(config)
+    seed = "seeds are drawn" if settings.seed is None else f"seed {settings.seed}"
+    return f"toxi: {__version__}, {seed}, {'no' if settings.workers is None else settings.workers} workers"
 
 
 @pytest.fixture
@@ -65,7 +75,7 @@ def toxi_upstreams() -> Mapping[str, str]:
 
 
 def _factory(request: pytest.FixtureRequest, folder: Path) -> Iterator[ToxiFactory]:
-    settings = settings_of(request.config)
+    settings = settings_at(request.node, request.config)
     seed = random.SystemRandom().getrandbits(DRAWN_BITS) if settings.seed is None else settings.seed
     kind = ToxiFactory if settings.faults is None else RememberingFactory
     factory = kind(seed, folder, settings.program, settings.workers, request.config.rootpath)

@@ -1,14 +1,15 @@
-"""The plugin's settings: the command line, then pytest's ini. Below them stand `$TOXI` and the package's own program."""
+"""The plugin's settings: the command line, then pytest's ini, then the environment. The mark of a test comes before them."""
 import os
-from dataclasses import dataclass
+from dataclasses import dataclass, replace
 from pathlib import Path
-from typing import Optional
+from typing import Optional, Union
 
 import pytest
 
+MARK = "toxi"
 NUMBERS = {
-    "seed": "the seed of the fixtures; else each test, module or session draws one",
-    "workers": "the number of workers of `serve`; else each link has threads of its own",
+    "seed": "the seed of the fixtures, else $TOXI_SEED; else each test, module or session draws one",
+    "workers": "the number of workers of `serve`, else $TOXI_WORKERS; else each link has threads of its own",
 }
 
 
@@ -33,20 +34,44 @@ def add_settings(parser: pytest.Parser) -> None:
     group.addoption("--toxi-program", metavar="PATH", help=about)
     parser.addini("toxi_program", f"{about}. A path is relative to the ini's folder")
     parser.addini("toxi_faults", "a folder, from that of the ini, where searches write what they find, by the test's id, and whose faults they run first")
-    group.addoption("--toxi-artifacts", metavar="DIR", help="keeps files, logs and pages of red tests in DIR, by the test's id and attempt")
+    about = "keeps files, logs and pages of red tests in DIR, by the test's id and attempt"
+    group.addoption("--toxi-artifacts", metavar="DIR", help=about)
+    parser.addini("toxi_artifacts", f"a folder DIR, from that of the ini: {about}")
     group.addoption("--toxi-page", metavar="FILE", help="writes one page of all searches and sweeps")
     group.addoption("--toxi-json", metavar="FILE", help="writes the results of all searches and sweeps as JSON, for toxi-merge")
 
 
 def settings_of(config: pytest.Config) -> Settings:
-    """The settings of a session. Raises `pytest.UsageError` for a number of the ini that is none."""
+    """The settings of a session. Raises `pytest.UsageError` for a number of the ini or of the environment that is none."""
     return Settings(
         _number(config, "seed"),
         _number(config, "workers"),
         config.getoption("--toxi-program") or _program_of_ini(config),
-        file_of(config, "artifacts"),
-        _faults_of_ini(config),
+        file_of(config, "artifacts") or _folder_of_ini(config, "artifacts"),
+        _folder_of_ini(config, "faults"),
     )
+
+
+def settings_at(node: Union[pytest.Item, pytest.Collector], config: pytest.Config) -> Settings:
+    """The settings of what is run at a node, where its mark `toxi(seed=, workers=)` comes first. Raises `pytest.UsageError` for another mark."""
+    settings = settings_of(config)
+    mark = node.get_closest_marker(MARK)
+    if mark is None:
+        return settings
+    if mark.args or not set(mark.kwargs) <= set(NUMBERS):
+        raise pytest.UsageError(f"@pytest.mark.{MARK} takes seed= and workers=, as @pytest.mark.{MARK}(seed=7, workers=2)")
+    return replace(settings, **mark.kwargs)
+
+
+def require_artifacts(config: pytest.Config) -> None:
+    """Raises `pytest.UsageError` where the folder of artifacts can't be made. It is made for the first red test."""
+    folder = settings_of(config).artifacts
+    if folder is None:
+        return
+    there = next(path for path in (folder, *folder.parents) if path.exists())
+    if not (there.is_dir() and os.access(there, os.W_OK | os.X_OK)):
+        why = "can't be written" if there.is_dir() else "is no folder"
+        raise pytest.UsageError(f"toxi-artifacts: {folder} can't be made, since {there} {why}")
 
 
 def file_of(config: pytest.Config, name: str) -> Optional[Path]:
@@ -57,13 +82,16 @@ def file_of(config: pytest.Config, name: str) -> Optional[Path]:
 
 def _number(config: pytest.Config, name: str) -> Optional[int]:
     told: Optional[int] = config.getoption(f"--toxi-{name}")
-    text = config.getini(f"toxi_{name}")
-    if told is not None or not text:
+    if told is not None:
         return told
-    try:
-        return int(text)
-    except ValueError:
-        raise pytest.UsageError(f"toxi_{name} of the ini is {text!r}, no whole number") from None
+    variable = f"TOXI_{name.upper()}"
+    for place, text in ((f"toxi_{name} of the ini", config.getini(f"toxi_{name}")), (variable, os.environ.get(variable))):
+        if text:
+            try:
+                return int(text)
+            except ValueError:
+                raise pytest.UsageError(f"{place} is {text!r}, no whole number") from None
+    return None
 
 
 def _program_of_ini(config: pytest.Config) -> Optional[str]:
@@ -74,8 +102,8 @@ def _program_of_ini(config: pytest.Config) -> Optional[str]:
     return str(_ini_folder(config) / program)
 
 
-def _faults_of_ini(config: pytest.Config) -> Optional[Path]:
-    folder: str = config.getini("toxi_faults")
+def _folder_of_ini(config: pytest.Config, name: str) -> Optional[Path]:
+    folder: str = config.getini(f"toxi_{name}")
     return _ini_folder(config) / folder if folder else None
 
 
