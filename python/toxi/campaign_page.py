@@ -5,7 +5,7 @@ from typing import Dict, List, Sequence
 from ._search.memory import MENDED
 from ._search.result import SearchResult
 from ._search.words import SEARCHED
-from .client_results import Result, client_of, safe_text, summary_of
+from .client_results import Result, client_of, is_failing, safe_text, summary_of
 from .fault_lines import FaultLine, lines_of
 from .page_parts import document, key, table
 from .search_page import strip
@@ -18,7 +18,7 @@ def page_text(results: Sequence[Result]) -> str:
     lines = [lines_of(result) for result in results]
     words = [word for word in SEARCHED if any(line.fault == word for each in lines for line in each)]
     rows = [_row(result, each, words) for result, each in zip(results, lines)]
-    failing = sum(any(line.failures for line in each) for each in lines)
+    failing = sum(map(is_failing, results))
     body = [f"<p>{failing} of {len(results)} clients are to be mended</p>", *key({line.css_class for each in lines for line in each})]
     details = [part for result, each in zip(results, lines) for part in _details(result, each)]
     return document("Toxi clients", [*body, *table(["Client", *words, *STATES], rows), *details])
@@ -43,7 +43,7 @@ def _row(result: Result, lines: Sequence[FaultLine], words: Sequence[str]) -> st
     strips = "".join(f"<td>{strip(by_word[word]) if by_word[word] else ''}</td>" for word in words)
     states = states_of(result)
     counts = "".join(f'<td class="number">{states.get(state, "")}</td>' for state in STATES)
-    opening = '<tr class="fails">' if any(line.failures for line in lines) else "<tr>"
+    opening = '<tr class="fails">' if is_failing(result) else "<tr>"
     return f'{opening}<th scope="row">{escape(client_of(result))}</th>{strips}{counts}</tr>'
 
 

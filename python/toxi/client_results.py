@@ -20,6 +20,11 @@ def summary_of(result: Result) -> str:
     return "\n".join([*result.summary, *result.left_out]) if isinstance(result, Sweep) else result.summary
 
 
+def is_failing(result: Result) -> bool:
+    """Whether the client is to be mended."""
+    return bool(result.failures if isinstance(result, Sweep) else result.found)
+
+
 def headline_of(result: Result) -> str:
     """What it came to, in a line."""
     if not isinstance(result, Sweep):

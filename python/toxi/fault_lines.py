@@ -55,7 +55,8 @@ def _lines_of_search(result: SearchResult) -> List[FaultLine]:
         # The first of its faults has it.
         word, stream, number = found.places[0] if found.places else ("", "", 0)
         failing.setdefault((word, stream, str(number or "all")), []).append(found)
-    return [_search_line(tried, failing.get((tried.fault, tried.stream, tried.connection), [])) for tried in result.tried]
+    lines = [_search_line(tried, failing.pop((tried.fault, tried.stream, tried.connection), [])) for tried in result.tried]
+    return lines + [_search_line(Tried(*place, 0, 0), found) for place, found in failing.items()]
 
 
 def _search_line(tried: Tried, found: List[Found]) -> FaultLine:

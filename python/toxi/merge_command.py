@@ -7,9 +7,8 @@ from typing import List, Optional, Sequence
 from . import __version__
 from ._search.merging import merged_files
 from .client_command import FOUND, NOTHING, REFUSED, STOPPED
-from .client_results import Result, client_of
+from .client_results import Result, client_of, is_failing
 from .errors import ToxiError
-from .fault_lines import lines_of
 from .sweep_table import Sweep
 from .sweeping import INTERRUPTED
 from .written_results import add_files, write_results
@@ -51,7 +50,7 @@ def _told(result: Result, has_others: bool) -> str:
 
 def _status(results: List[Result]) -> int:
     """That of one run which found all of it."""
-    if any(line.failures for result in results for line in lines_of(result)):
+    if any(map(is_failing, results)):
         return FOUND
     return STOPPED if any(map(_is_stopped, results)) else NOTHING
 

@@ -16,7 +16,7 @@ from unittest import mock
 
 from find_tests import Searching
 from search_order_tests import BUDGET, WITHIN, PretendedBatch, drawn
-from toxi import ToxiError, find_command, merge_command, sweep_command
+from toxi import Found, ToxiError, find_command, merge_command, sweep_command
 from toxi._search import drawing
 from toxi._search.about import SEARCH, SWEEP, About
 from toxi._search.conversation import Conversation
@@ -147,7 +147,7 @@ class MergingTests(unittest.TestCase):
             Path(f"{number}.json").write_text(result if isinstance(result, str) else json.dumps(result))
         printed, said = io.StringIO(), io.StringIO()
         with contextlib.redirect_stdout(printed), contextlib.redirect_stderr(said):
-            status = merge_command.main([*(f"{number}.json" for number in range(1, len(results) + 1)), "--json", "merged.json"])
+            status = merge_command.main([*(f"{number}.json" for number in range(1, len(results) + 1)), "--json", "merged.json", "--page", "merged.html"])
         return status, printed.getvalue(), said.getvalue()
 
     def test_shards_in_any_order_are_one_result(self):
@@ -160,6 +160,14 @@ class MergingTests(unittest.TestCase):
         both = self.merged(members, result_of("writes"))
         self.assertEqual((both[0], both[1].splitlines()[::3]), (0, ["reads:", "writes:"]))
         self.assertEqual(self.merged(json.loads(Path("merged.json").read_text()))[1], both[1])
+
+    def test_a_failure_that_no_line_has_is_told(self):
+        found = Found("version = 2\n", "hang", "", 2, 2, (), 1, 9, 1.0, Path("found"), places=(("silent", "downstream", 1),))
+        members = SearchResult((found,), (), (), "done", (), (), 9, 1.0).members()
+        status, printed, _ = self.merged({**result_of(), "found": members["found"]}, result_of("writes"))
+        self.assertEqual((status, printed.splitlines()[:2]), (1, ["reads:", "hang in 2 of 2 runs, found and shrunk by 9 runs in 1.0 s"]))
+        self.assertIn("1 of 2 clients are to be mended", Path("merged.html").read_text())
+        self.assertIn("1 downstream silent", Path("merged.html").read_text())
 
     def test_the_shard_that_did_least_says_how_it_ended(self):
         halves = result_of(shard="1/2"), {**result_of(shard="2/2"), "ended_by": "budget", "phases": []}
