@@ -14,8 +14,9 @@ from ._search.shards import Shard
 from .batches import ClientSetup
 from .outcomes import WITHIN
 from .seeds import seed_argument
+from .persistent_client import direct_request
 from .shell_client import checks_by, direct_command, status_judge
-from .written_results import add_files
+from .written_results import add_files, new_file
 
 # The options that decide what is tried and what is right, beside those of one of the commands.
 OPTIONS = ("allowed_statuses", "before", "check", "connections", "faults")
@@ -78,7 +79,7 @@ def _add_shard_options(parser: argparse.ArgumentParser) -> None:
     about = "run part K of N of the faults, over the --conversation that all parts have. `toxi-merge` joins their --json"
     parser.add_argument("--shard", metavar="K/N", type=_shard, default=Shard(), help=about)
     about = "record the client without a fault and under silence, write what that shows, and end"
-    parser.add_argument("--keep-conversation", metavar="FILE", type=Path, help=about)
+    parser.add_argument("--keep-conversation", metavar="FILE", type=new_file, help=about)
     parser.add_argument("--conversation", metavar="FILE", type=Path, help="read what --keep-conversation has written, in place of recording it")
 
 
@@ -112,7 +113,7 @@ def keep_conversation(setup: ClientSetup, make_judge: MakeJudge, path: Path) -> 
 def judge_maker(arguments: argparse.Namespace, command: Sequence[str]) -> MakeJudge:
     """What makes the judge of a command's runs."""
     looks = None if arguments.check is None else checks_by(arguments.check)
-    direct = direct_command(arguments.upstreams, command)
+    direct = (direct_request if vars(arguments).get("persistent") else direct_command)(arguments.upstreams, command)
     return functools.partial(status_judge, allowed_statuses=arguments.allowed_statuses, direct=direct, looks=looks)
 
 

@@ -20,6 +20,8 @@ from .client_command import FOUND, NOTHING, REFUSED, STOPPED, take_signals
 from .client_source import CommandSource
 from .errors import ToxiError
 from .find_progress import ProgressLine
+from .outcomes import Startable
+from .persistent_client import PersistentClient
 from .shell_client import ShellClient, before_of
 from .smallness import KINDS
 from .written_results import write_results
@@ -43,15 +45,28 @@ def main(words: Optional[List[str]] = None) -> int:
     arguments, command = read_client_arguments(_parser(), sys.argv[1:] if words is None else words)
     take_signals()
     line = ProgressLine(sys.stderr)
+    client: Startable = PersistentClient(tuple(command)) if arguments.persistent else ShellClient(tuple(command))
     try:
         if arguments.keep_conversation is not None:
-            return _told(keep_conversation(_setup(arguments, command), judge_maker(arguments, command), arguments.keep_conversation), NOTHING, line)
-        result = _search(arguments, command, line)
-        write_results([result], arguments.json, arguments.page, arguments.junit)
+            return _told(keep_conversation(_setup(arguments, client), judge_maker(arguments, command), arguments.keep_conversation), NOTHING, line)
+        result = _search(arguments, command, client, line)
     except KeyboardInterrupt:
         return _told(f"stopped, nothing found by {line.runs} runs", STOPPED, line)
     except (ToxiError, ModuleNotFoundError, ValueError, OSError) as error:
         return _told(f"{NAME}: {error}", REFUSED, line)
+    finally:
+        client.close()
+    status = _tell(result, arguments, line)
+    # What was found is told, whatever can't be written.
+    try:
+        write_results([result], arguments.json, arguments.page, arguments.junit)
+    except OSError as error:
+        return _told(f"{NAME}: {error}", REFUSED, line)
+    return status
+
+
+def _tell(result: SearchResult, arguments: argparse.Namespace, line: ProgressLine) -> int:
+    """Prints what the search came to. Returns its status."""
     if not result.found and result.ended_by == "interrupted":
         return _told(f"stopped, nothing found by {line.runs} runs", STOPPED, line)
     if not result.found:
@@ -69,22 +84,24 @@ def _parser() -> argparse.ArgumentParser:
     parser.add_argument("--stream", choices=STREAMS, help="faults of this stream alone")
     parser.add_argument("--kind", dest="kinds", action="append", choices=KINDS, help="toxics of this type alone. Repeatable")
     parser.add_argument("--remember", metavar="DIR", type=Path, help="write each fault into DIR too, and run first what --name has there")
+    about = "keep the command for many runs: each is a line of JSON on its standard input, answered by a line `toxi-answer RUN STATUS`"
+    parser.add_argument("--persistent", action="store_true", help=about)
     parser.add_argument("--trickle", action="store_true", help="draws streams that are slower than --within allows, too")
     return parser
 
 
-def _setup(arguments: argparse.Namespace, command: List[str]) -> ClientSetup:
+def _setup(arguments: argparse.Namespace, client: Startable) -> ClientSetup:
     options = {"seed": arguments.seed, "program": arguments.program}
-    return ClientSetup(arguments.upstreams, ShellClient(tuple(command)), arguments.within, before_of(arguments.before), arguments.jobs, options)
+    return ClientSetup(arguments.upstreams, client, arguments.within, before_of(arguments.before), arguments.jobs, options)
 
 
-def _search(arguments: argparse.Namespace, command: List[str], line: ProgressLine) -> SearchResult:
+def _search(arguments: argparse.Namespace, command: List[str], client: Startable, line: ProgressLine) -> SearchResult:
     kinds, words = (None if given is None else tuple(given) for given in (arguments.kinds, arguments.faults))
     given = given_conversation(arguments)
     return Engine(
-        _setup(arguments, command),
+        _setup(arguments, client),
         judge_maker(arguments, command),
-        CommandSource(command, arguments.allowed_statuses, arguments.before, arguments.check),
+        CommandSource(command, arguments.allowed_statuses, arguments.before, arguments.check, arguments.persistent),
         arguments.seed,
         Path.cwd(),
         DrawnFaults(arguments.connections, arguments.stream, kinds, arguments.trickle, words),

@@ -135,8 +135,8 @@ def run(words: Sequence[str]) -> int:
     finally:
         line.end()
     sweep = sweeping.sweep
+    print(sweep, last_line(words, arguments, sweep), sep="\n", flush=True)
     write_files(sweep, arguments)
-    print(sweep, last_line(words, arguments, sweep), sep="\n")
     if interrupted:
         return STOPPED
     return FOUND if sweep.failures else NOTHING

@@ -2,6 +2,7 @@
 import argparse
 import json
 import os
+import sys
 from pathlib import Path
 from typing import Optional, Sequence
 
@@ -14,9 +15,16 @@ from .step_summary import VARIABLE, markdown_text
 
 def add_files(parser: argparse.ArgumentParser) -> None:
     """The options that name files of a result."""
-    parser.add_argument("--json", metavar="FILE", type=Path, help="write the result as JSON")
-    parser.add_argument("--page", metavar="FILE", type=Path, help="write the result as an HTML page")
-    parser.add_argument("--junit", metavar="FILE", type=Path, help="write the result as JUnit's XML")
+    for name, form in (("--json", "JSON"), ("--page", "an HTML page"), ("--junit", "JUnit's XML")):
+        parser.add_argument(name, metavar="FILE", type=new_file, help=f"write the result as {form}")
+
+
+def new_file(text: str) -> Path:
+    """The path of a file that is to be written. One that can't be is told before anything runs."""
+    path = Path(text)
+    if path.is_dir() or not os.access(path.parent, os.W_OK):
+        raise argparse.ArgumentTypeError(f"{text} can't be written")
+    return path
 
 
 def write_results(results: Sequence[Result], json_file: Optional[Path], page: Optional[Path], junit: Optional[Path] = None) -> None:
@@ -26,8 +34,16 @@ def write_results(results: Sequence[Result], json_file: Optional[Path], page: Op
             path.write_text(text_of(results), encoding="utf-8", errors="backslashreplace")
     summary = os.environ.get(VARIABLE)
     if summary:
-        with open(summary, "a", encoding="utf-8") as file:
-            file.write(markdown_text(results))
+        _append(Path(summary), markdown_text(results))
+
+
+def _append(path: Path, text: str) -> None:
+    """Puts a text behind a file. The summary of a step isn't worth its failure."""
+    try:
+        with path.open("a", encoding="utf-8") as file:
+            file.write(text)
+    except OSError as error:
+        print(f"{VARIABLE}: {error}", file=sys.stderr)
 
 
 def json_text(results: Sequence[Result]) -> str:

@@ -224,6 +224,8 @@ class ConversationFileTests(unittest.TestCase):
             for words, told in (
                 (("--shard", "1/2"), "a shard needs the --conversation that all shards have"),
                 (("--shard", "3/2"), "'3/2' isn't a shard K/N with K from 1 to N"),
+                (("--json", "/nowhere/result.json"), "argument --json: /nowhere/result.json can't be written"),
+                (("--keep-conversation", "/"), "argument --keep-conversation: / can't be written"),
                 (("--conversation", "a", "--keep-conversation", "b"), "--keep-conversation records anew, so it takes no --conversation"),
             ):
                 said = io.StringIO()
@@ -309,6 +311,13 @@ class SocketTests(Searching):
             self.assertEqual(merged[name], whole[name], name)
         xml.dom.minidom.parse(f"{self.folder}/page.html")
         self.assertEqual(len(list(xml.etree.ElementTree.parse(Path(self.folder, "junit.xml")).iter("failure"))), 1)
+
+    def test_what_was_found_is_told_though_its_file_can_not_be_written(self):
+        """As on a disk that is full, /dev/full takes nothing."""
+        for command, words, first in (("find", ("--max-found", "1", "--runs", "1"), "status 1 in "), ("sweep", ("--most", "20"), "shop 1: 6 bytes")):
+            ran = self.ran(command, CUT, "--json", "/dev/full", *words)
+            self.assertEqual((ran.returncode, ran.stderr.count("No space left on device")), (2, 1))
+            self.assertTrue(ran.stdout.startswith(first), ran.stdout)
 
     def test_a_conversation_of_other_upstreams_is_refused(self):
         Path(self.folder, "kept.json").write_text(KeptConversation(("mail",), Conversation(())).text)
