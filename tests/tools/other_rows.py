@@ -1,7 +1,7 @@
 """The rows of databases, queues, git and ssh."""
 import functools
 
-from programs import git, mariadb, mosquitto, postgres, redis, ssh
+from programs import git, mariadb, mosquitto, postgres, redis, rsync, ssh
 from row import Row, Service, Tool, module, python_client
 
 REDIS = Service("Redis", redis, "redis-server", "/usr/bin/redis-server")
@@ -9,6 +9,7 @@ POSTGRES = Service("PostgreSQL", postgres, "postgresql", "/usr/lib/postgresql/*/
 MARIADB = Service("MariaDB", mariadb, "mariadb-server", "/usr/sbin/mariadbd")
 MOSQUITTO = Service("Mosquitto", mosquitto, "mosquitto", "/usr/sbin/mosquitto")
 GIT_DAEMON = Service("git daemon", git, "git", "/usr/lib/git-core/git-daemon")
+RSYNC_DAEMON = Service("rsync daemon", rsync, "rsync", "/usr/bin/rsync")
 SSHD = Service("sshd", ssh, "openssh-server", "/usr/sbin/sshd")
 
 REDIS_PY = module("redis", "redis-py", "python3-redis")
@@ -21,6 +22,7 @@ PYMYSQL = module("pymysql", "PyMySQL", "python3-pymysql")
 MARIADB_CLIENT = Tool("mariadb", "mariadb-client", ("sh", "-c", "mariadb --version | sed 's/.*Distrib//'"))
 MOSQUITTO_PUB = Tool("mosquitto_pub", "mosquitto-clients", ("sh", "-c", "mosquitto_pub --version || test $? = 1"))
 GIT = Tool("git", "git", ("git", "--version"))
+RSYNC = Tool("rsync", "rsync", ("rsync", "--version"))
 SSH = Tool("ssh", "openssh-client", ("ssh", "-V"))
 
 HOST, PORT = "{server.host}", "{server.port}"
@@ -63,6 +65,14 @@ ROWS = (
         GIT_DAEMON,
         ("sh", "-c", "rm -rf copy && git clone -q git://{server}/shop copy && git -C copy log --format=%s && cat copy/page"),
         "a cut repository is taken for a whole one",
+    ),
+    silent_row("rsync-list", RSYNC, RSYNC_DAEMON, ("rsync", "rsync://{server}/shop/"), NO_LIMIT),
+    Row(
+        "rsync-copy",
+        RSYNC,
+        RSYNC_DAEMON,
+        ("sh", "-c", "rm -rf copy && rsync -q --timeout=1 rsync://{server}/shop/page copy && cat copy"),
+        "a cut file is taken for a whole one",
     ),
     silent_row(
         "ssh-command",

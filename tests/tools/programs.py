@@ -1,4 +1,4 @@
-"""Servers that are programs of Debian: Redis, PostgreSQL, MariaDB, Mosquitto, git's daemon and sshd. Each keeps its files in a given folder."""
+"""Servers that are programs of Debian: Redis, PostgreSQL, MariaDB, Mosquitto, the daemons of git and rsync, and sshd. Each keeps its files in a given folder."""
 import contextlib
 import getpass
 import os
@@ -58,6 +58,16 @@ def git(folder: pathlib.Path) -> contextlib.AbstractContextManager[str]:
     for words in (["add", "page"], ["-c", "user.name=Toxi", "-c", "user.email=toxi@localhost", "commit", "-q", "-m", "a page"]):
         subprocess.run(["git", "-C", shop, *words], check=True)
     return _server(["git", "daemon", "--export-all", f"--base-path={folder}", "--listen=127.0.0.1", "--port={port}"])
+
+
+def rsync(folder: pathlib.Path) -> contextlib.AbstractContextManager[str]:
+    """A daemon with the module `shop`, of one file."""
+    shop = folder / "shop"
+    shop.mkdir()
+    (shop / "page").write_text("x" * 264, encoding="utf-8")
+    settings = folder / "rsyncd.conf"
+    settings.write_text(f"use chroot = no\n[shop]\npath = {shop}\n", encoding="utf-8")
+    return _server(["rsync", "--daemon", "--no-detach", "--address=127.0.0.1", "--port={port}", f"--config={settings}"])
 
 
 def ssh(folder: pathlib.Path) -> contextlib.AbstractContextManager[str]:

@@ -1,4 +1,6 @@
 """The rows of tools that fetch a page."""
+from typing import Any
+
 from row import CLIENTS, PYTHON, Row, Service, Tool, Words, module, python_client
 from web import chunked, gzipped, over_tls, with_length
 
@@ -16,8 +18,12 @@ AIOHTTP = module("aiohttp", "aiohttp", "python3-aiohttp")
 URLLIB = Tool("urllib of Python", "python3", (PYTHON, "--version"))
 NODE = Tool("Node", "nodejs", ("node", "--version"))
 JAVA = Tool("Java", "default-jdk-headless", ("javac", "--version"))
+GO = Tool("net/http of Go", "golang-go", ("go", "version"))
+OPENSSL = Tool("openssl s_client", "openssl", ("openssl", "version"))
 
 CUT = "a cut page is taken for a whole one"
+# It prints what the server answers until the server ends it. The head has a date.
+S_CLIENT = "set -o pipefail; printf 'GET / HTTP/1.0\\r\\n\\r\\n' | openssl s_client -quiet -connect {server} | LC_ALL=C sed '1,/^\\r$/d'"
 
 
 def wget(page: str) -> Words:
@@ -37,6 +43,12 @@ def java(name: str, client: str) -> Row:
     return Row(name, JAVA, LENGTH, ("java", "-cp", ".", client, SIZED_PAGE), CUT, build=("javac", "-d", ".", str(CLIENTS / f"{client}.java")))
 
 
+def go(name: str, service: Service, limit: str, page: str, wrong: str, **options: Any) -> Row:
+    """A client in Go with a time limit in seconds, which is compiled once."""
+    build = ("go", "build", "-o", "page", str(CLIENTS / "page.go"))
+    return Row(name, GO, service, ("./page", limit, page), wrong, build=build, **options)
+
+
 ROWS = (
     Row("wget-chunked", WGET, CHUNKS, wget(PAGE), CUT),
     Row("wget-length", WGET, LENGTH, wget(SIZED_PAGE), CUT),
@@ -53,4 +65,8 @@ ROWS = (
     Row("node-pipe", NODE, LENGTH, node("node_pipe.js", SIZED_PAGE), CUT),
     java("java-connection", "Connected"),
     java("java-client", "Asked"),
+    go("go-length", LENGTH, "1", SIZED_PAGE, CUT),
+    go("go-gzip", GZIP, "1", PAGE, CUT),
+    go("go-default", LENGTH, "0", SIZED_PAGE, "its default client has no time limit", faults=("silent",), within=4.0, max_found=1),
+    Row("openssl-s-client", OPENSSL, TLS, ("bash", "-c", S_CLIENT), CUT),
 )
