@@ -1,7 +1,7 @@
 # Sourced by tree, ../package, ../install and the tests, where `root` is the repository: what is packed beside the program.
 
 # The pages of the manual. The others are for those who change the program.
-PAGES="CAMPAIGNS CI CLOCK CONTAINERS DRAW FAULTS FINDING FROM-TOXIPROXY INSTALL LANGUAGES MEANING PERFORMANCE PROFILE REPLAY REPORT SCRIPTS SWEEPING TESTING-WITH-TOXI TOXICS"
+PAGES="CAMPAIGNS CI CLOCK CONTAINERS DRAW FAULTS FINDING FROM-TOXIPROXY INSTALL LANGUAGES MEANING OPERATING PERFORMANCE PROFILE REPLAY REPORT SCRIPTS SWEEPING TESTING-WITH-TOXI TOXICS"
 # The machines that there are programs for, as `uname -m` prints them; packaging/machines.py has the rest of each.
 MACHINES="x86_64 aarch64"
 # Folders that are packed as they are.
