@@ -159,8 +159,12 @@ impl Argument {
             Some(letter) => arg.short(letter),
             None => arg,
         };
-        arg.required_unless_present_any(if is_set { &[] } else { self.unless })?
-            .conflicts_with_all(self.without)?
+        let arg = if is_set {
+            arg
+        } else {
+            arg.required_unless_present_any(self.unless)?
+        };
+        arg.conflicts_with_all(self.without)?
             .requires_all(self.beside)
     }
 }

@@ -283,7 +283,7 @@ pub(crate) fn serve_task<'a>(
     if given.get_str("listen").is_some() {
         return inline_task(alloc, given, environment);
     }
-    let mut used = Vec::new(alloc);
+    let mut used: Vec<UsedVariable<'a>> = Vec::new(alloc);
     let config = text_of(alloc, given, environment, &SERVE_CONFIG, &mut used)?;
     let script = text_of(alloc, given, environment, &SERVE_SCRIPT, &mut used)?;
     match config.zip(script) {
