@@ -43,16 +43,19 @@ class ClientSource(ABC):
 
 @dataclass(frozen=True)
 class CommandSource(ClientSource):
-    """A command and the statuses with which it may fail, and the shell's commands that run before each run and that check it."""
+    """A command and the statuses with which it may fail, and the shell's commands that run before each run and that check it. One that is `persistent` stays
+    for many runs."""
 
     command: Sequence[str]
     allowed_statuses: Sequence[int]
     before: Optional[str] = None
     check: Optional[str] = None
+    persistent: bool = False
 
     def test_text(self, about: str, within: float, times: int) -> str:
         """As a test of the command."""
-        given = "".join(f"{name}={text!r}, " for name, text in (("before", self.before), ("check", self.check)) if text is not None)
+        options_given = (("before", self.before), ("check", self.check), ("persistent", self.persistent or None))
+        given = "".join(f"{name}={value!r}, " for name, value in options_given if value is not None)
         options = f"allowed_statuses={list(self.allowed_statuses)!r}, {given}within={within!r}, times={times}, upstreams=toxi_upstreams"
         call = f"rerun_command(Path(__file__).parent, {list(self.command)!r}, {options})"
         return f"{HEAD.format(about=about)}\nfrom toxi import rerun_command\nfrom toxi.again import run_again\n{TEST.format(call=call, times=times)}"

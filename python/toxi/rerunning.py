@@ -9,6 +9,7 @@ from ._search.running import MakeJudge
 from .base import StrPath
 from .found import detail_of
 from .outcomes import SETTLED_WITHIN, WITHIN, Allowed, Check, Client, Eventually, Startable, judge_of
+from .persistent_client import PersistentClient, direct_request
 from .shell_client import ShellClient, before_of, checks_by, direct_command, status_judge
 from ._search.kept_runs import KeptRuns
 
@@ -45,13 +46,20 @@ def rerun_command(
     within: float = WITHIN,
     times: int = 1,
     upstreams: Optional[Mapping[str, str]] = None,
+    persistent: bool = False,
 ) -> None:
-    """As `rerun`, for a command, whose outputs are ours. `before` and `check` are a shell's commands, as for `toxi-find`."""
+    """As `rerun`, for a command, whose outputs are ours. `before` and `check` are a shell's commands, as for `toxi-find`.
+
+    With `persistent` it is one that stays for many runs. Each run here has a process of its own.
+    """
     __tracebackhide__ = True
-    kept_runs = KeptRuns({**upstreams_of(folder), **(upstreams or {})}, ShellClient(tuple(command), None), within, _seed(folder), before_of(before))
+    client: Startable = PersistentClient(tuple(command), None) if persistent else ShellClient(tuple(command), None)
+    kept_runs = KeptRuns({**upstreams_of(folder), **(upstreams or {})}, client, within, _seed(folder), before_of(before))
     looks = None if check is None else checks_by(check)
-    judge = partial(status_judge, allowed_statuses=allowed_statuses, direct=direct_command(kept_runs.upstreams, command), looks=looks)
-    _require_right(kept_runs, judge, Path(folder), times)
+    direct = (direct_request if persistent else direct_command)(kept_runs.upstreams, command)
+    # Each run within `fresh` ends its process.
+    with client.fresh():
+        _require_right(kept_runs, partial(status_judge, allowed_statuses=allowed_statuses, direct=direct, looks=looks), Path(folder), times)
 
 
 def _require_right(kept_runs: KeptRuns, make_judge: MakeJudge, folder: Path, times: int) -> None:

@@ -76,9 +76,14 @@ class ShellClient(Startable):
 
     def start(self, addresses: Addresses) -> StartedRun:
         """Starts the command in a session of its own. Raises `ToxiError` where it can't be run."""
-        if shutil.which(self.command[0]) is None:
-            raise ToxiError(f"{self.command[0]} isn't there, or can't be run")
+        require_command(self.command)
         return _CommandRun(with_addresses(self.command, addresses), variables_of(addresses), self.output)
+
+
+def require_command(command: Sequence[str]) -> None:
+    """Raises `ToxiError` where a command can't be run."""
+    if shutil.which(command[0]) is None:
+        raise ToxiError(f"{command[0]} isn't there, or can't be run")
 
 
 def with_addresses(command: Sequence[str], addresses: Mapping[str, object]) -> List[str]:
@@ -115,7 +120,7 @@ class _CommandRun(StartedRun):
         status = self._child.wait()
         found = Status(status if status >= 0 else SIGNALLED - status)
         with self._said as said:
-            found.said = _last_line(said) if found else ""
+            found.said = last_line(said) if found else ""
         self.settle(found)
 
     def end(self) -> None:
@@ -127,22 +132,22 @@ class _CommandRun(StartedRun):
 
     def _signal(self, number: int) -> None:
         """Sends a signal to its process group. Once it is ended from outside, to the other groups of its session too: `timeout` has one of its own."""
-        for group in {self._child.pid, *(_groups_of(self._child.pid) if self._is_ended else ())}:
+        for group in {self._child.pid, *(groups_of(self._child.pid) if self._is_ended else ())}:
             try:
                 os.killpg(group, number)
             except ProcessLookupError:
                 pass
 
 
-def _last_line(said: IO[bytes]) -> str:
-    """The last line that isn't empty."""
+def last_line(said: IO[bytes], since: int = 0) -> str:
+    """The last line that isn't empty, behind so many bytes."""
     size = said.seek(0, os.SEEK_END)
-    said.seek(max(0, size - MAX_SAID))
+    said.seek(max(since, size - MAX_SAID))
     lines = said.read().decode(errors="replace").split("\n")
     return next((line.strip() for line in reversed(lines) if line.strip()), "")
 
 
-def _groups_of(session: int) -> Set[int]:
+def groups_of(session: int) -> Set[int]:
     """The process groups of a session."""
     found = set()
     for stat in glob.glob("/proc/[0-9]*/stat"):

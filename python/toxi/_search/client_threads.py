@@ -1,5 +1,6 @@
 """Runs of a client that have been started: a function in a thread, which may call it again for a later run."""
 import asyncio
+import contextlib
 import contextvars
 import inspect
 import os
@@ -8,7 +9,7 @@ import threading
 from abc import ABC, abstractmethod
 from collections import deque
 from types import FrameType, TracebackType
-from typing import Any, Callable, Coroutine, Deque, List, Mapping, Optional, Tuple
+from typing import Any, Callable, ContextManager, Coroutine, Deque, List, Mapping, Optional, Tuple
 
 from ..checks import PACKAGE
 from ..lines import Address
@@ -59,6 +60,13 @@ class Startable(ABC):
     @abstractmethod
     def start(self, addresses: Addresses) -> StartedRun:
         """Starts one with the addresses of its proxies."""
+
+    def fresh(self) -> ContextManager[None]:
+        """Within it no run has a process that has had another run."""
+        return contextlib.nullcontext()
+
+    def close(self) -> None:
+        """Ends what is kept between runs."""
 
 
 class FunctionClient(Startable):

@@ -1,11 +1,12 @@
 """Runs what has failed again: whether it comes again, how often, and under which smaller case it still does."""
+import contextlib
 import time
 from dataclasses import dataclass
 from pathlib import Path
 from typing import Callable, Iterable, List, Optional, Sequence
 
 from ..batches import BatchRun
-from ..outcomes import Verdict
+from ..outcomes import Startable, Verdict
 from .cases import Case
 from .conversation import Conversation
 from .failures import Failure
@@ -41,7 +42,10 @@ class Repeating:
         return not failure.outcome.returned or self.again(failure.case, more, failure.verdict) == [failure.verdict] * more
 
     def again(self, case: Case, times: int, until: Optional[Verdict] = None) -> List[Verdict]:
-        """The verdicts of more runs, up to the first that isn't `until`, if that is given. Those that the budget kept from being run are missing."""
+        """The verdicts of more runs, up to the first that isn't `until`, if that is given. Those that the budget kept from being run are missing.
+
+        A client that stays for many runs has a fresh process for each of these, since an earlier run may have broken the kept one.
+        """
         __tracebackhide__ = True
         verdicts: List[Verdict] = []
 
@@ -49,8 +53,10 @@ class Repeating:
             verdicts.append(verdict)
             return until is None or verdict == until
 
+        client = self.runner.setup.client
         try:
-            list(self.runner.run(Cases([case] * times), ended))
+            with client.fresh() if isinstance(client, Startable) else contextlib.nullcontext():
+                list(self.runner.run(Cases([case] * times), ended))
         except Over:
             # What runs next raises it again.
             pass
