@@ -15,20 +15,21 @@ from pathlib import Path
 from unittest import mock
 
 from find_tests import Searching
-from search_order_tests import BUDGET, WITHIN, PretendedBatch, drawn
-from toxi import Found, ToxiError, find_command, merge_command, sweep_command
+from search_order_tests import BUDGET, WITHIN, PretendedBatch, came_of, drawn
+from toxi import Found, Latency, LimitData, ResetPeer, Rule, Timeout, ToxiError, find_command, merge_command, sweep_command
 from toxi._search import drawing
 from toxi._search.about import SEARCH, SWEEP, About
-from toxi._search.conversation import Conversation
+from toxi._search.cases import Case
+from toxi._search.conversation import Conversation, measuring_cases
 from toxi._search.conversation_file import KeptConversation, read_conversation
 from toxi._search.merging import merged_files
 from toxi._search.recording import recorded
 from toxi._search.result import SearchResult, Tried
-from toxi._search.searching import SearchLimits
+from toxi._search.searching import REMEMBERED_RUNS, SearchLimits
 from toxi._search.searching import Searching as SearchUnderWay
 from toxi._search.shards import Shard
 from toxi.batches import ClientSetup
-from toxi.outcomes import Equals, Judge
+from toxi.outcomes import Equals, Judge, Outcome
 from toxi.sweeping import SWEPT, Sweeping, chooser
 
 SETUP = ClientSetup({"shop": "127.0.0.1:1"}, None, WITHIN, None, 1, {})
@@ -51,6 +52,15 @@ class Noting(SearchUnderWay):
     def _ended(self, run, verdict):
         self.tried = (*self.tried, run.case.key)
         return super()._ended(run, verdict)
+
+
+def reconnects(case):
+    """As `came_of`, for a client that is always right. It makes a second connection where the first one fails, and a third where that does."""
+    _, links, streams = came_of(case)
+    failing = {rule.first for rule in case.rules for toxic in rule.toxics if isinstance(toxic, (LimitData, ResetPeer, Timeout))}
+    made = 1 if 1 not in failing else 2 if 2 not in failing else 3
+    links = [replace(link, number=number) for number in range(1, made + 1) for link in links[:1]]
+    return Outcome(answer=b"right", seconds=0.5 if failing else 0.01), links, [stream for stream in streams if stream.number == 1]
 
 
 class Pretended(unittest.TestCase):
@@ -78,22 +88,54 @@ class PretendedTests(Pretended):
         self.assertTrue(read.conversation.limits)
         self.assertNotIn("127.0.0.1", self.given.text)
 
-    def tried(self, shard, given, faults=WITHOUT_HANGS):
-        limits = SearchLimits(60, BUDGET, 50)
-        search = Noting(SETUP, lambda outcomes: JUDGE, drawing.DrawnFaults(words=faults), limits, 1, Path("/"), lambda found: None, given=given, shard=shard)
+    def tried(self, shard, given, remembered=(), faults=drawing.DrawnFaults(words=WITHOUT_HANGS)):
+        """What the phases try, each once. A remembered case that doesn't fail is run three times."""
+        options = {"given": given, "shard": shard, "remembered": remembered}
+        search = Noting(SETUP, lambda outcomes: JUDGE, faults, SearchLimits(60, BUDGET, 50), 1, Path("/"), lambda found: None, **options)
         self.assertEqual(search.run(), "done")
-        self.assertEqual(len(set(search.tried)), len(search.tried))
+        again = len(search.remembered_verdicts) * (REMEMBERED_RUNS - 1)
+        self.assertEqual(len(set(search.tried)), len(search.tried) - again)
         return set(search.tried)
+
+    def require_parts(self, given, whole, **options):
+        """All shards together try what one run tries, each its own part."""
+        for of in NUMBERS:
+            parts = [self.tried(Shard(number, of), given, **options) for number in range(1, of + 1)]
+            self.assertEqual(sum(map(len, parts)), len(whole), of)
+            self.assertEqual(set().union(*parts), whole, of)
 
     def test_shards_of_a_search_try_what_one_run_tries(self):
         whole = self.tried(Shard(), self.given)
         self.assertGreater(len(whole), 100)
         # One that records the same conversation tries the same.
         self.assertEqual(self.tried(Shard(), None), whole)
-        for of in NUMBERS:
-            parts = [self.tried(Shard(number, of), self.given) for number in range(1, of + 1)]
-            self.assertEqual(sum(map(len, parts)), len(whole), of)
-            self.assertEqual(set().union(*parts), whole, of)
+        self.require_parts(self.given, whole)
+
+    def test_remembered_faults_are_those_of_one_shard(self):
+        """None fails, and the last one is among the boundaries."""
+        remembered = [Case((Rule("shop", [toxic], first=1, last=1),)) for toxic in (Latency(latency=3), Latency(latency=5), LimitData(bytes=110))]
+        whole = self.tried(Shard(), self.given, remembered)
+        self.assertEqual(len(whole), len(self.tried(Shard(), self.given)) + 2)
+        self.require_parts(self.given, whole, remembered=remembered)
+
+    def test_silence_is_tried_where_it_was_measured(self):
+        """As by a run that measures by itself: those places are spread over all boundaries, and the phase of the boundaries has the first and the last alone."""
+        streams = [replace(stream, also=frozenset(range(0, stream.bytes, 3))) for stream in self.given.conversation.streams]
+        given = KeptConversation(("shop",), Conversation(streams, self.given.conversation.limits))
+        downstream = drawing.DrawnFaults(stream="downstream", words=("silent",))
+        whole = self.tried(Shard(), given, faults=downstream)
+        self.assertLessEqual({case.key for case in measuring_cases(streams)}, whole)
+        self.require_parts(given, whole, faults=downstream)
+
+    def test_connections_that_only_a_fault_calls_forth(self):
+        """Silence calls them forth when the conversation is recorded. What a shard's own runs call forth the others don't know."""
+        with mock.patch("search_order_tests.came_of", reconnects):
+            given = recorded(SETUP, lambda outcomes: JUDGE)
+            self.assertEqual([stream.number for stream in given.conversation.streams], [1, 1])
+            self.assertEqual(list(given.called), [("shop", 2)])
+            whole = self.tried(Shard(), given)
+            self.assertTrue(any("first = 2\nlast = 2" in key for key in whole))
+            self.require_parts(given, whole)
 
     def test_a_conversation_of_another_client_is_refused(self):
         other = KeptConversation(("shop",), Conversation([replace(stream, proxy="mail") for stream in self.given.conversation.streams]))
