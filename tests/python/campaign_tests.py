@@ -67,17 +67,19 @@ class RunTests(unittest.TestCase):
         self.wait_for(self.ports["8080"])
 
     def status(self, command):
-        """The status of a command. One that ends with `&` runs on until the test ends."""
+        """The status of a command, whose output is in `self.printed`. One that ends with `&` runs on until the test ends."""
         for port, own in self.ports.items():
             command = command.replace(port, own)
         background = command.endswith("&")
-        options = {"cwd": self.folder, "env": self.environment, "stdout": subprocess.DEVNULL, "stderr": subprocess.DEVNULL, "start_new_session": True}
+        output = subprocess.DEVNULL if background else subprocess.PIPE
+        options = {"cwd": self.folder, "env": self.environment, "stdout": output, "stderr": subprocess.DEVNULL, "text": True, "start_new_session": True}
         process = subprocess.Popen(["sh", "-c", f"exec {command.rstrip('& ')}"], **options)
         if background:
             self.addCleanup(process.wait)
             self.addCleanup(os.killpg, process.pid, signal.SIGKILL)
             return 0
-        return process.wait(LIMIT)
+        self.printed, _ = process.communicate(timeout=LIMIT)
+        return process.returncode
 
     def wait_for(self, port):
         self.assertEqual(subprocess.run([os.environ["TOXI"], "wait", f"127.0.0.1:{port}", "--within", "60000"], check=False).returncode, 0)
@@ -91,12 +93,14 @@ class RunTests(unittest.TestCase):
 
     def test_machines_of_a_ci(self):
         self.assertEqual(self.ran("Machines of a CI"), [("toxi-find", 0), *[("toxi-find", 1)] * 3, ("toxi-merge", 1)])
+        self.assertTrue(self.printed.startswith("status 1 in "), self.printed)
         for name in ("page.html", "page.xml"):
             xml.dom.minidom.parse(str(self.folder / name))
 
     @unittest.skipUnless(importlib.util.find_spec("distributed"), "apt-get install python3-distributed")
     def test_a_cluster(self):
         self.assertEqual(self.ran("A cluster"), [("python3", 0)] * 4)
+        self.assertTrue(self.printed.startswith("wrong answer in "), self.printed)
 
     def test_all_clients_of_a_night(self):
         self.assertEqual(self.ran("All clients of a night"), [("toxi-find", 1), ("toxi-sweep", 0), ("toxi-merge", 1)])
