@@ -27,7 +27,7 @@ def page_text(results: Sequence[Result]) -> str:
 def states_of(result: Result) -> Dict[str, int]:
     """How many failures are new and known, where faults are remembered, and how many are mended and flaky. What isn't known is missing."""
     if not isinstance(result, SearchResult):
-        return {}
+        return {"Flaky": sum(run.other_runs > 0 for run in result.swept)}
     found = {"Flaky": len(result.flaky)}
     if result.remembered or any(each.remembered for each in result.found):
         before = {each.file for each in result.remembered}

@@ -72,7 +72,12 @@ def _lines_of_sweep(sweep: Sweep) -> List[FaultLine]:
 
 def _sweep_line(rows: List[SweepRow]) -> FaultLine:
     first = rows[0]
-    kinds = [row.first.verdict.kind for row in rows if row.fails or not (row.first.verdict.is_fault or row.outcome == NOT_REACHED)]
+    kinds = [_kind_of(row) for row in rows if row.fails or row.outcome != NOT_REACHED]
     kind = max(kinds, key=SEVERITIES.index) if kinds else None
     failures = tuple(safe_text(f"{row}\n{row.first.detail}".rstrip("\n")) for row in rows if row.fails)
     return FaultLine(f"{printed(first.proxy)} {first.connection} {first.stream}", first.fault, kind, sum(row.runs for row in rows), failures)
+
+
+def _kind_of(row: SweepRow) -> Kind:
+    """What came once and not again counts as right."""
+    return row.first.verdict.kind if row.fails or not row.first.verdict.is_fault else Kind.RIGHT

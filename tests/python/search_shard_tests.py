@@ -29,7 +29,10 @@ from toxi._search.searching import REMEMBERED_RUNS, SearchLimits
 from toxi._search.searching import Searching as SearchUnderWay
 from toxi._search.shards import Shard
 from toxi.batches import ClientSetup
-from toxi.outcomes import Equals, Judge, Outcome
+from toxi.campaign_page import states_of
+from toxi.client_results import is_failing
+from toxi.fault_lines import lines_of
+from toxi.outcomes import Equals, Judge, Kind, Outcome
 from toxi.sweeping import SWEPT, Sweeping, chooser
 
 SETUP = ClientSetup({"shop": "127.0.0.1:1"}, None, WITHIN, None, 1, {})
@@ -163,6 +166,15 @@ class PretendedTests(Pretended):
             self.assertEqual((str(merged.rows), merged.chosen, merged.possible), (str(whole.rows), whole.chosen, whole.possible), of)
             self.assertEqual({(run.point, run.outcome) for run in merged.swept}, {(run.point, run.outcome) for run in whole.swept})
             self.assertEqual([row.first.detail for row in merged.rows], [row.first.detail for row in whole.rows])
+
+    def test_what_came_once_in_a_sweep_is_flaky_and_no_failure(self):
+        whole = self.sweep(Shard(), 5000)
+        failing = [run for run in whole.swept if run.verdict.is_fault]
+        self.assertTrue(failing and all(line.kind is not None for line in lines_of(whole)))
+        once = replace(whole, swept=[replace(run, other_runs=3) if run.verdict.is_fault else run for run in whole.swept])
+        self.assertFalse(is_failing(once) or any(line.failures for line in lines_of(once)))
+        self.assertLessEqual({line.kind for line in lines_of(once)}, {Kind.RIGHT, Kind.ALLOWED, None})
+        self.assertEqual(states_of(once), {"Flaky": len(failing)})
 
     def test_shards_of_a_bounded_sweep_make_no_more_runs_than_one(self):
         whole = self.sweep(Shard(), 150)
