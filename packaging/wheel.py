@@ -1,5 +1,5 @@
 #!/usr/bin/env python3
-"""Makes the wheel of the Python package with the program in it, and prints its name. What it says of itself is that of python/pyproject.toml. The same input
+"""Makes the wheel of the Python package with the program in it, its man page and its completions, and prints its name. What it says of itself is that of python/pyproject.toml. The same input
 gives the same wheel."""
 import argparse
 import base64
@@ -11,6 +11,8 @@ from metadata import PACKAGE, PYTHON, metadata, project_table, version_of
 
 # A static program runs beside any C library. These are the oldest that pip has a name for.
 PLATFORMS = ("manylinux_2_17", "manylinux2014", "musllinux_1_1")
+# What of the tree's `share` a wheel has: the man page and the completions.
+SHARED = ("bash-completion", "fish", "man", "zsh")
 FILE = 0o100644
 EXECUTABLE = 0o100755
 
@@ -32,18 +34,23 @@ def wheel_file(machine):
     return f"Wheel-Version: 1.0\nGenerator: toxi packaging/wheel.py\nRoot-Is-Purelib: false\n{tags}"
 
 
-def contents(project, version, program, machine, notices):
-    """The name, bytes and mode of each file but RECORD. pip puts the program among the commands of the environment."""
+def contents(project, version, machine, tree):
+    """The name, bytes and mode of each file but RECORD. pip puts the program among the commands of the environment, and `share` beside their folder, where `man` and
+    the shells look."""
     name = f"{project['name']}-{version}"
     for path in sorted(PACKAGE.rglob("*")):
         if path.is_file() and "__pycache__" not in path.parts:
             yield f"toxi/{path.relative_to(PACKAGE)}", path.read_bytes(), FILE
-    yield f"{name}.data/scripts/toxi", program.read_bytes(), EXECUTABLE
+    yield f"{name}.data/scripts/toxi", (tree / "bin" / "toxi").read_bytes(), EXECUTABLE
+    for folder in SHARED:
+        for path in sorted((tree / "share" / folder).rglob("*")):
+            if path.is_file():
+                yield f"{name}.data/data/{path.relative_to(tree)}", path.read_bytes(), FILE
     yield f"{name}.dist-info/METADATA", metadata(project, version).encode(), FILE
     yield f"{name}.dist-info/WHEEL", wheel_file(machine).encode(), FILE
     yield f"{name}.dist-info/entry_points.txt", entry_points(project).encode(), FILE
     yield f"{name}.dist-info/licenses/LICENSE", (PYTHON / "LICENSE").read_bytes(), FILE
-    yield f"{name}.dist-info/licenses/NOTICES", notices.read_bytes(), FILE
+    yield f"{name}.dist-info/licenses/NOTICES", (tree / "share" / "doc" / "toxi" / "NOTICES").read_bytes(), FILE
 
 
 def recorded(name, content):
@@ -62,9 +69,8 @@ def put(wheel, name, content, mode, date):
 
 def arguments():
     parser = argparse.ArgumentParser(description=__doc__)
-    parser.add_argument("program", type=Path, help="the path of the program")
+    parser.add_argument("tree", type=Path, help="the folder that packaging/tree has made of the program")
     parser.add_argument("machine", help="what it runs on, as `uname -m` prints it")
-    parser.add_argument("notices", type=Path, help="the file with the licences of what the program links")
     parser.add_argument("date", help="the time of each file, as 2026-11-28")
     parser.add_argument("folder", type=Path, help="where the wheel is put")
     return parser.parse_args()
@@ -78,7 +84,7 @@ def main():
     record = f"{project['name']}-{version}.dist-info/RECORD"
     lines = ""
     with zipfile.ZipFile(given.folder / name, "w") as wheel:
-        for file, content, mode in contents(project, version, given.program, given.machine, given.notices):
+        for file, content, mode in contents(project, version, given.machine, given.tree):
             put(wheel, file, content, mode, given.date)
             lines += recorded(file, content)
         put(wheel, record, f"{lines}{record},,\n".encode(), FILE, given.date)
