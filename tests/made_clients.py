@@ -172,12 +172,12 @@ def rust_type(table, toxic):
 
 
 def version_behind(*places):
-    """The text of a file with the program's version behind each of these texts, up to the next quotation mark or tag."""
+    """The text of a file with the program's version behind each of these texts, in place of the one that is there."""
 
     def made(table, text):
         version = table.version.split(" ")[0]
         for place in places:
-            text = re.sub(f"({re.escape(place)})[^\"<]*", lambda found: found[1] + version, text, count=1)
+            text = re.sub(rf"({re.escape(place)})\d+\.\d+\.\d+", lambda found: found[1] + version, text, count=1)
         return text
 
     return made
@@ -190,8 +190,9 @@ CLIENTS = {
     "clients/java/src/main/java/invalid/toxi/Toxics.java": java_toxics,
     "clients/rust/src/toxics.rs": rust_toxics,
 }
-# Files with the version of their package, which is the program's.
+# Files with the version of a package, which is the program's.
 VERSIONS = {
+    "docs/LANGUAGES.md": version_behind("toxi.invalid/toxi@v", "toxi.invalid-toxi-", "target/toxi-"),
     "clients/go/program.go": version_behind('const Version = "'),
     "clients/js/package.json": version_behind('"version": "', '-x64": "', '-arm64": "'),
     "clients/rust/Cargo.toml": version_behind('name = "toxi"\nversion = "'),

@@ -129,3 +129,9 @@ export class Toxi {
   /** Stops at the end of `await using`. */
   [Symbol.asyncDispose](): Promise<void>;
 }
+
+/**
+ * Runs a client for each line that `toxi-find --persistent` writes to standard input, with `host:port` of each proxy, and answers with its status: 0 is right.
+ * It ends once standard input does. What the client prints on standard output begins on a line of its own.
+ */
+export function answerRuns(client: (proxies: Readonly<Record<string, string>>) => number | Promise<number>): Promise<void>;

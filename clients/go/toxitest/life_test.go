@@ -185,3 +185,13 @@ func TestNothingIsLeftOfATestThatEndedOrWasKilled(t *testing.T) {
 	noError(t, err)
 	expect(t, len(left), 0)
 }
+
+func TestRunsAreAnswered(t *testing.T) {
+	t.Parallel()
+	client := exec.Command(os.Args[0])
+	client.Env = append(os.Environ(), "TOXI_TEST_ANSWERS=yes")
+	client.Stdin = strings.NewReader(`{"run": 1, "proxies": {"shop": "127.0.0.1:4"}}` + "\n" + `{"run": 2, "proxies": {}}` + "\n")
+	printed, err := client.Output()
+	noError(t, err)
+	expect(t, string(printed), "toxi-answer 1 11\ntoxi-answer 2 0\n")
+}

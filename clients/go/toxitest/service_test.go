@@ -26,6 +26,10 @@ func TestMain(m *testing.M) {
 	if address := os.Getenv("TOXI_TEST_SERVED"); address != "" {
 		serveUntilKilled(address)
 	}
+	if os.Getenv("TOXI_TEST_ANSWERS") != "" {
+		toxi.AnswerRuns(func(proxies map[string]string) int { return len(proxies["shop"]) })
+		return
+	}
 	// An option of `serve` that isn't the suite's.
 	os.Setenv("TOXI_WORKERS", "none")
 	service = startService()

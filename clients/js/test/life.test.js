@@ -126,4 +126,10 @@ describe("life", { concurrency: true }, () => {
     await eventually("toxi ends with the test that started it", () => isRefused(address));
     assert.deepEqual(await readdir(folder), []);
   });
+
+  it("runs are answered", () => {
+    const input = '{"run": 1, "proxies": {"shop": "127.0.0.1:4"}}\n{"run": 2, "proxies": {}}\n';
+    const printed = execFileSync(process.execPath, [join(__dirname, "answers.js")], { input, encoding: "utf8" });
+    assert.equal(printed, "toxi-answer 1 11\ntoxi-answer 2 0\n");
+  });
 });

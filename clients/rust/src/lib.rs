@@ -20,6 +20,7 @@
 //!
 //! Calls that wait hold up their thread. Under tokio, make them by `tokio::task::spawn_blocking`.
 
+mod answer;
 mod config;
 mod error;
 mod event;
@@ -33,6 +34,7 @@ mod served;
 mod toxic;
 mod toxics;
 
+pub use answer::answer_runs;
 pub use config::{Config, Proxy, Rule};
 pub use error::{Error, Fault};
 pub use event::{Link, Total};

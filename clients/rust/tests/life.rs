@@ -3,7 +3,7 @@ mod common;
 
 use std::env;
 use std::fs;
-use std::io::{BufRead, BufReader, ErrorKind};
+use std::io::{BufRead, BufReader, ErrorKind, Write};
 use std::net::TcpListener;
 use std::os::unix::fs::PermissionsExt;
 use std::path::PathBuf;
@@ -52,6 +52,22 @@ fn red() {
     let got = fetched(&served.address("shop").unwrap()).unwrap();
     served.wait_for_link("shop", 1, PATIENCE).unwrap();
     assert_eq!(got, SIZE);
+}
+
+#[test]
+#[ignore = "a client that stays for many runs"]
+fn answers() {
+    println!();
+    toxi::answer_runs(|proxies| proxies.get("shop").map_or(0, |address| address.len() as u8)).unwrap();
+}
+
+#[test]
+fn runs_are_answered() {
+    let mut client = other_test("answers").arg("--nocapture").stdin(Stdio::piped()).stdout(Stdio::piped()).spawn().unwrap();
+    let requests = "{\"run\": 1, \"proxies\": {\"shop\": \"127.0.0.1:4\"}}\n{\"run\": 2, \"proxies\": {}}\n";
+    client.stdin.take().unwrap().write_all(requests.as_bytes()).unwrap();
+    let printed = String::from_utf8(client.wait_with_output().unwrap().stdout).unwrap();
+    assert!(printed.contains("\ntoxi-answer 1 11\ntoxi-answer 2 0\n"), "{printed}");
 }
 
 #[test]

@@ -146,6 +146,16 @@ final class LifeTest {
         assertArrayEquals(new String[0], folder.toFile().list());
     }
 
+    @Test
+    void runsAreAnswered() throws Exception {
+        Process client = new ProcessBuilder(java(), "-cp", System.getProperty("java.class.path"), AnswersCase.class.getName()).start();
+        try (var requests = client.getOutputStream()) {
+            requests.write("{\"run\": 1, \"proxies\": {\"shop\": \"127.0.0.1:4\"}}\n{\"run\": 2, \"proxies\": {}}\n".getBytes());
+        }
+        assertEquals("toxi-answer 1 11\ntoxi-answer 2 0\n", new String(client.getInputStream().readAllBytes()));
+        assertEquals(0, client.waitFor());
+    }
+
     static String java() {
         return Path.of(System.getProperty("java.home"), "bin", "java").toString();
     }
