@@ -39,7 +39,10 @@ def lives(process):
 
 class AsyncTests(unittest.IsolatedAsyncioTestCase):
     def setUp(self):
-        self.upstream = {"shop": self.enterContext(serving(Pages)).address}
+        # `enterContext` came with Python 3.11.
+        pages = serving(Pages)
+        self.upstream = {"shop": pages.__enter__().address}
+        self.addCleanup(pages.__exit__, None, None, None)
 
     async def test_a_link_and_its_end(self):
         async with AsyncToxi(self.upstream, CUT, seed=7) as toxi:
