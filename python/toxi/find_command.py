@@ -36,7 +36,7 @@ a fault its status must be 0. Under a fault 0 is right too, --allow-status names
 The status is 0 where nothing was found, 1 where something was, 2 where the search can't be made, and 130 where it was stopped before."""
 DEFAULT_FOLDER = "toxi-found"
 # The options of this command alone that decide what is tried.
-OPTIONS = ("runs", "stream", "kinds", "trickle")
+OPTIONS = ("runs", "stream", "kinds", "trickle", "persistent")
 NAME = "toxi-find"
 
 
