@@ -16,7 +16,7 @@ from toxi.persistent_client import PersistentClient
 CLIENT = """
 import json, os, socket, sys, time
 
-is_broken = False
+is_broken = breaks = False
 print("the client prints this", flush=True)
 for line in sys.stdin:
     request = json.loads(line)
@@ -38,6 +38,7 @@ for line in sys.stdin:
         {short}
     if is_broken:
         status = 1
+    is_broken = breaks
     print(f"toxi-answer {{request['run']}} {{status}}", flush=True)
 """
 
@@ -83,10 +84,9 @@ class PersistentTests(unittest.TestCase):
         self.assertIn("hang in ", ran.stdout)
 
     def test_what_only_a_kept_process_shows_is_not_found(self):
-        ran = self.found("is_broken = True; status = 7", "--fault", "closed", "--max-found", "2")
-        self.assertIn("status 1", ran.stdout)
-        fresh = [line for line in ran.stdout.splitlines() if line.startswith("status 1 in ")]
-        self.assertTrue(all("10 of 10" in line for line in fresh), ran.stdout)
+        ran = self.found("breaks = True; status = 7", "--fault", "closed")
+        self.assertEqual((ran.returncode, ran.stderr), (0, ""))
+        self.assertIn("status 1 came, but in no repetition", ran.stdout)
 
     def test_one_that_ends_without_an_answer_has_a_status(self):
         client = PersistentClient(["sh", "-c", "read request; echo gone >&2; exit 0"])
