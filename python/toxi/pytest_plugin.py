@@ -44,8 +44,11 @@ def pytest_configure(config: pytest.Config) -> None:
 
 
 def pytest_report_header(config: pytest.Config) -> str:
-    """The version, the seed and the workers of the session."""
-    settings = settings_of(config)
+    """The version, the seed and the workers of the session. What is wrong with these a test tells that needs them."""
+    try:
+        settings = settings_of(config)
+    except pytest.UsageError:
+        return f"toxi: {__version__}"
     seed = "seeds are drawn" if settings.seed is None else f"seed {settings.seed}"
     return f"toxi: {__version__}, {seed}, {'no' if settings.workers is None else settings.workers} workers"
 

@@ -47,7 +47,7 @@ def settings_of(config: pytest.Config) -> Settings:
         _number(config, "seed"),
         _number(config, "workers"),
         config.getoption("--toxi-program") or _program_of_ini(config),
-        file_of(config, "artifacts") or _folder_of_ini(config, "artifacts"),
+        _artifacts(config),
         _folder_of_ini(config, "faults"),
     )
 
@@ -65,7 +65,7 @@ def settings_at(node: Union[pytest.Item, pytest.Collector], config: pytest.Confi
 
 def require_artifacts(config: pytest.Config) -> None:
     """Raises `pytest.UsageError` where the folder of artifacts can't be made. It is made for the first red test."""
-    folder = settings_of(config).artifacts
+    folder = _artifacts(config)
     if folder is None:
         return
     there = next(path for path in (folder, *folder.parents) if path.exists())
@@ -100,6 +100,10 @@ def _program_of_ini(config: pytest.Config) -> Optional[str]:
     if os.sep not in program:
         return program or None
     return str(_ini_folder(config) / program)
+
+
+def _artifacts(config: pytest.Config) -> Optional[Path]:
+    return file_of(config, "artifacts") or _folder_of_ini(config, "artifacts")
 
 
 def _folder_of_ini(config: pytest.Config, name: str) -> Optional[Path]:
