@@ -6,7 +6,7 @@ import signal
 import tempfile
 import unittest
 
-from services import Pages, serving
+from services import Pages, entered, serving
 from toxi import AsyncToxi, LimitData, Proxy, ResetPeer, Rule, Toxi, ToxiEnded, ToxiError, ToxiFault, ToxiWarning
 
 PATIENCE = 20
@@ -39,10 +39,7 @@ def lives(process):
 
 class AsyncTests(unittest.IsolatedAsyncioTestCase):
     def setUp(self):
-        # `enterContext` came with Python 3.11.
-        pages = serving(Pages)
-        self.upstream = {"shop": pages.__enter__().address}
-        self.addCleanup(pages.__exit__, None, None, None)
+        self.upstream = {"shop": entered(self, serving(Pages)).address}
 
     async def test_a_link_and_its_end(self):
         async with AsyncToxi(self.upstream, CUT, seed=7) as toxi:

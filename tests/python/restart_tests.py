@@ -5,7 +5,7 @@ import socket
 import tempfile
 import unittest
 
-from services import Pages, serving
+from services import Pages, entered, serving
 from toxi import LimitData, Proxy, ResetPeer, Rule, Toxi, ToxiEnded, ToxiError, ToxiFault
 from http_tests import CUT, PATIENCE, get, succeeds
 
@@ -34,7 +34,7 @@ def is_taken(address):
 
 class RestartTests(unittest.TestCase):
     def setUp(self):
-        self.upstream = {"shop": self.enterContext(serving(Pages)).address}
+        self.upstream = {"shop": entered(self, serving(Pages)).address}
 
     def served(self, *given, **options):
         toxi = Toxi(self.upstream, *given, **options)

@@ -7,8 +7,10 @@ import socketserver
 import subprocess
 import threading
 import time
-from typing import Any, Callable, Iterator, List
+import unittest
+from typing import Any, Callable, Iterator, List, TypeVar
 
+Given = TypeVar("Given")
 # How long a program may take until it answers, in seconds, and how often a port is tried.
 PATIENCE = 60
 PORT_TRIES = 5
@@ -102,3 +104,10 @@ def running(command: Callable[[int], List[str]], answers: Callable[[int], bool],
                     program.wait(PATIENCE)
                 program.kill()
     raise RuntimeError(f"{command(port)[0]} didn't start")
+
+
+def entered(test: unittest.TestCase, manager: "contextlib.AbstractContextManager[Given]") -> Given:
+    """What a context manager gives, until the end of the test. `enterContext` came with Python 3.11."""
+    given = manager.__enter__()
+    test.addCleanup(manager.__exit__, None, None, None)
+    return given
