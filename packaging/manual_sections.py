@@ -15,7 +15,7 @@ STATUS = [
 ]
 
 ENVIRONMENT = [
-    ("TOXI", "The path of the program that the Python package, its commands toxi-find and toxi-sweep, and examples/with-toxi run."),
+    ("TOXI", "The path of the program that the packages for Python, Go, JavaScript, Java and Rust, toxi-find and toxi-sweep, and examples/with-toxi run."),
     ("TOXI_EXPLAIN", "1: lines below a fault explain it, as with --explain. 0: they don't on a terminal and in the journal either."),
     ("TOXI_CONFIG, TOXI_SCRIPT, TOXI_SEED, TOXI_WORKERS", "Options of serve, where they aren't typed. Each one that is used is told."),
     ("TOXI_NAME", "Set by these commands for what they run: the address of the proxy NAME, in upper case and with _ for other signs than letters and digits."),
