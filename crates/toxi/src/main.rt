@@ -115,6 +115,7 @@ fn perform<
 where
     R::File: Send + 'static,
     R::Dir: Send + 'static,
+    R::Reader: Send + 'static,
 {
     match task {
         Task::Dry(link) => dry::dry(rt, explaining, link),

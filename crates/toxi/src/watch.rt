@@ -109,6 +109,7 @@ pub fn serve<R: Input + Print + Eprint + Files + AllocGlobal + ServeRuntime>(
 where
     R::File: Send + 'static,
     R::Dir: Send + 'static,
+    R::Reader: Send + 'static,
 {
     let _input = hold_descriptor(rt);
     let _output = hold_descriptor(rt);
@@ -131,6 +132,7 @@ fn serve_watched<R: Input + Print + Eprint + Files + AllocGlobal + ServeRuntime>
 where
     R::File: Send + 'static,
     R::Dir: Send + 'static,
+    R::Reader: Send + 'static,
 {
     let Ok(serving) = Arc::new(rt.alloc(), Serving::new()) else {
         return fail(rt, &ServeFault::OutOfMemory);
@@ -151,6 +153,7 @@ fn start<R: Input + Print + Eprint + Files + AllocGlobal + ServeRuntime>(
 where
     R::File: Send + 'static,
     R::Dir: Send + 'static,
+    R::Reader: Send + 'static,
 {
     if until_eof {
         let Ok(shared) = serving.clone() else {
@@ -171,7 +174,10 @@ where
 }
 
 /// Starts the thread that reads standard input. False if it can't be had.
-fn start_reading<R: Input + Eprint + ServeRuntime>(rt: &R, serving: Arc<Serving, Global>) -> bool {
+fn start_reading<R: Input + Eprint + ServeRuntime>(rt: &R, serving: Arc<Serving, Global>) -> bool
+where
+    R::Reader: Send + 'static,
+{
     let there = *rt;
     let started = thread::spawn(rt, move || {
         stop_at_end_of_input(&there, &serving.shutdown);
