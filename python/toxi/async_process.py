@@ -4,29 +4,34 @@ import os
 import signal
 import subprocess
 import weakref
-from typing import Any, Callable, Coroutine, List, Optional, Sequence
+from typing import Any, Callable, Coroutine, Optional, Sequence
 
 from .commands import ERRORS, Answer, unstartable
-from .process import STOP_LIMIT, tied_to_parent
+from .held_input import HeldInput
+from .printed_lines import Sink
+from .process import STOP_LIMIT
 from .program import environment
 
 
 class AsyncProcess:
     """A running program, read by tasks. Its lines go to `lines`, and those of standard error to `said`."""
 
-    def __init__(self, child: asyncio.subprocess.Process, lines: List[str], said: List[str]) -> None:
+    def __init__(self, child: asyncio.subprocess.Process, held: HeldInput, lines: Sink, said: Sink) -> None:
         self._child = child
         # Runs at the interpreter's exit too.
-        self._kill = weakref.finalize(self, _send, child, signal.SIGKILL)
+        self._kill = weakref.finalize(self, _kill, child, held)
         self._changed = asyncio.Condition()
         self._readers = [asyncio.ensure_future(self._read(*each)) for each in ((child.stdout, lines), (child.stderr, said))]
 
     @classmethod
-    async def started(cls, command: Sequence[str], lines: List[str], said: List[str]) -> "AsyncProcess":
-        """Starts a command."""
-        return cls(await _start([*tied_to_parent(), *command], subprocess.DEVNULL), lines, said)
+    async def started(cls, command: Sequence[str], lines: Sink, said: Sink) -> "AsyncProcess":
+        """Starts a command, whose input ends with this process."""
+        held = HeldInput()
+        with held.lent() as reading:
+            child = await _start(command, reading)
+        return cls(child, held, lines, said)
 
-    async def _read(self, stream: Optional[asyncio.StreamReader], lines: List[str]) -> None:
+    async def _read(self, stream: Optional[asyncio.StreamReader], lines: Sink) -> None:
         assert stream is not None
         async for line in stream:
             lines.append(line.decode(errors="replace").rstrip("\n"))
@@ -86,6 +91,11 @@ class AsyncProcess:
         finally:
             self._kill()
         return await self.wait(STOP_LIMIT)
+
+
+def _kill(child: asyncio.subprocess.Process, held: HeldInput) -> None:
+    _send(child, signal.SIGKILL)
+    held.close()
 
 
 def _send(child: asyncio.subprocess.Process, number: int) -> None:

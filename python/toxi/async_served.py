@@ -10,7 +10,8 @@ from .base import HOLD_PAUSE, STREAMS, StrPath, ToxiBase
 from .errors import ToxiError, error_of
 from .lines import Link, Total
 from .picks import PickedToxic, picked
-from .process import STOP_LIMIT
+from .printed_lines import VERBOSE, SaidLines
+from .process import STOP_LIMIT, UNTIL_EOF
 from .rules import Rule
 from .runs import Run, names_of, written_page
 from .seconds import seconds
@@ -121,7 +122,7 @@ class AsyncToxi(ToxiBase):
 
     async def _serve(self, run: Run) -> None:
         self._serving(run)
-        self._process = process = await AsyncProcess.started(run.serve_command(), run.lines, run.said)
+        self._process = process = await AsyncProcess.started([*run.serve_command(), UNTIL_EOF, VERBOSE], self._printed, SaidLines(run.said))
         if await process.wait_until(self._listens, self._start_timeout):
             self._addresses = run.listening()
             return

@@ -11,6 +11,7 @@ from .errors import ToxiEnded, ToxiError, error_of
 from .lines import Address, Link, Total, printed
 from .places import kept_rules
 from .ports import HeldPorts
+from .printed_lines import PrintedLines
 from .program import found_program, startable
 from .proxies import Proxies, enabled_by_name, enabled_names, listening_at, populate_text
 from .rules import Rule
@@ -55,6 +56,7 @@ class ToxiBase:
         numbers = (("--links", links), ("--workers", workers), ("--connect-timeout", milliseconds(connect_timeout)))
         self._options = [word for option, value in numbers if value is not None for word in (option, str(value))]
         self._runs: List[Run] = []
+        self._printed = PrintedLines([])
         self._addresses: Dict[str, Address] = {}
         self._held = HeldPorts()
         self._begun = False
@@ -140,7 +142,16 @@ class ToxiBase:
 
     def _no_link(self, proxy: str, number: int, timeout: float, writes: bool, hint: str = "") -> Exception:
         what = f"link {number} of {proxy}; its lines are {self.lines()!r}{hint}"
-        return TimeoutError(f"not within {timeout} s: {what}") if writes else ToxiEnded(f"toxi has ended without {what}")
+        if not writes:
+            return ToxiEnded(f"toxi has ended without {what}")
+        return TimeoutError(f"not within {timeout} s: {what}; {self._state(proxy, number)}")
+
+    def _state(self, proxy: str, number: int) -> str:
+        """Why a link has no line yet."""
+        seconds_open = self._printed.open_for(proxy, number)
+        if seconds_open is not None:
+            return f"link {number} is open since {seconds_open:.1f} s: close the client's connection"
+        return "no connection yet" if number == 1 else f"no connection {number} yet"
 
     def _no_end(self, timeout: float) -> TimeoutError:
         return TimeoutError(f"toxi didn't end within {timeout} s; its lines are {self.lines()!r}")
@@ -186,6 +197,7 @@ class ToxiBase:
     def _serving(self, run: Run) -> None:
         """Notes that this run is the present one."""
         self._runs.append(run)
+        self._printed = PrintedLines(run.lines)
         self._rules, self._seed = run.rules, run.seed
         self._held.lend()
 

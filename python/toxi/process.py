@@ -1,4 +1,4 @@
-"""A child process that is read line by line and never outlives the tests."""
+"""A `serve` that is read line by line and never outlives the tests."""
 import contextlib
 import shutil
 import signal
@@ -8,26 +8,31 @@ import time
 import weakref
 from typing import IO, Callable, Iterator, List, Optional, Sequence
 
+from .held_input import HeldInput
+from .printed_lines import Sink
 from .program import environment
 
 # Signals that end this process, and so must not come between the start of a child and the moment when it is kept.
 ENDING = {signal.SIGTERM, signal.SIGINT}
+# With this option `serve` ends at the end of its standard input, and so with this process.
+UNTIL_EOF = "--until-eof"
 # `serve` ends within 2 seconds of SIGTERM, or some more with thousands of links. A busy machine gets more, in seconds.
 STOP_LIMIT = 10
 
 
 class Process:
-    """A running program. Its lines are read by threads, so that it never waits for its output to be read.
+    """A running program. Its lines are read by threads, so that it never waits for its output to be read. Its input ends with this process.
 
     They go to `lines`, and those of standard error to `said`.
     """
 
-    def __init__(self, command: Sequence[str], lines: List[str], said: List[str]) -> None:
+    def __init__(self, command: Sequence[str], lines: Sink, said: Sink) -> None:
         with contextlib.ExitStack() as undone:
-            with signals_held():
+            held = HeldInput()
+            with signals_held(), held.lent() as reading:
                 self._child = subprocess.Popen(
-                    [*tied_to_parent(), *command],
-                    stdin=subprocess.DEVNULL,
+                    command,
+                    stdin=reading,
                     stdout=subprocess.PIPE,
                     stderr=subprocess.PIPE,
                     encoding="utf-8",
@@ -35,12 +40,12 @@ class Process:
                     env=environment(),
                 )
                 # Runs at the interpreter's exit too, and here where a signal that came meanwhile is raised: the caller removes the child's files next.
-                self._kill = undone.callback(weakref.finalize(self, _kill, self._child))
+                self._kill = undone.callback(weakref.finalize(self, _kill, self._child, held))
             self._changed = threading.Condition()
             self._readers = [self._reader(self._child.stdout, lines), self._reader(self._child.stderr, said)]
             undone.pop_all()
 
-    def _reader(self, stream: Optional[IO[str]], lines: List[str]) -> threading.Thread:
+    def _reader(self, stream: Optional[IO[str]], lines: Sink) -> threading.Thread:
         assert stream is not None
         thread = threading.Thread(target=_read, args=(stream, lines, self._changed), daemon=True)
         thread.start()
@@ -102,7 +107,7 @@ class Process:
         return status
 
 
-def _read(stream: IO[str], lines: List[str], changed: threading.Condition) -> None:
+def _read(stream: IO[str], lines: Sink, changed: threading.Condition) -> None:
     with stream:
         for line in stream:
             with changed:
@@ -110,9 +115,11 @@ def _read(stream: IO[str], lines: List[str], changed: threading.Condition) -> No
                 changed.notify_all()
 
 
-def _kill(child: "subprocess.Popen[str]") -> None:
+def _kill(child: "subprocess.Popen[str]", held: Optional[HeldInput] = None) -> None:
     child.kill()
     child.wait()
+    if held is not None:
+        held.close()
 
 
 @contextlib.contextmanager
@@ -126,7 +133,7 @@ def signals_held() -> Iterator[None]:
 
 
 def tied_to_parent() -> List[str]:
-    """A command before the command, with which the system kills the child when its parent dies.
+    """A command before a client's, with which the system kills the child when its parent dies. A `serve` ends by its input.
 
     The system takes the thread that started the child for its parent, so this is for the main thread alone.
     """

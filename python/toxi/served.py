@@ -11,7 +11,8 @@ from .commands import answer_of
 from .errors import ToxiError, error_of
 from .lines import Link, Total
 from .picks import PickedToxic, picked
-from .process import STOP_LIMIT, Process
+from .printed_lines import VERBOSE, SaidLines
+from .process import STOP_LIMIT, UNTIL_EOF, Process
 from .rules import Rule
 from .runs import Position, Run, names_of, written_page
 from .seconds import seconds
@@ -141,7 +142,7 @@ class Toxi(ToxiBase):
 
     def _serve(self, run: Run) -> None:
         self._serving(run)
-        self._process = process = Process(run.serve_command(), run.lines, run.said)
+        self._process = process = Process([*run.serve_command(), UNTIL_EOF, VERBOSE], self._printed, SaidLines(run.said))
         if process.wait_until(self._listens, self._start_timeout):
             self._addresses = run.listening()
             return

@@ -31,6 +31,35 @@ def run():
         ACT
 run()
 """
+# A test run whose proxy is started in a thread or under asyncio. It tells its process, and then those of children that outlive it: another program, and a fork.
+PARENT = """
+import asyncio, os, subprocess, sys, threading, time
+from toxi import AsyncToxi, Toxi
+async def start_async():
+    global toxi
+    toxi = await AsyncToxi({"shop": "127.0.0.1:1"}).__aenter__()
+    tell()
+    await asyncio.sleep(60)
+def start():
+    global toxi
+    toxi = Toxi({"shop": "127.0.0.1:1"}).__enter__()
+def tell():
+    other = subprocess.Popen(["sleep", "60"], stdin=subprocess.DEVNULL, stdout=subprocess.DEVNULL)
+    fork = os.fork()
+    if fork == 0:
+        os.closerange(0, 3)
+        time.sleep(60)
+        os._exit(0)
+    print(toxi._process._child.pid, other.pid, fork, flush=True)
+if sys.argv[1] == "asyncio":
+    asyncio.run(start_async())
+else:
+    thread = threading.Thread(target=start)
+    thread.start()
+    thread.join()
+    tell()
+    time.sleep(60)
+"""
 
 
 def lives(process):
@@ -59,10 +88,7 @@ class EndingTests(unittest.TestCase):
             if to_parent is not None:
                 run.send_signal(to_parent)
             run.wait(PATIENCE)
-        end = time.monotonic() + PATIENCE
-        while lives(proxy):
-            self.assertLess(time.monotonic(), end, f"the proxy lives on after {act}, {to_parent}")
-            time.sleep(0.01)
+        self.is_gone(proxy, f"{act}, {to_parent}")
 
     def test_an_exception_ends_it(self):
         self.ends_with("raise ValueError")
@@ -81,6 +107,28 @@ class EndingTests(unittest.TestCase):
 
     def test_the_death_of_the_parent_ends_it(self):
         self.ends_with("time.sleep(60)", signal.SIGKILL)
+
+    def test_the_death_of_the_parent_ends_it_whatever_child_lives_on(self):
+        for how in ("thread", "asyncio"):
+            with tempfile.TemporaryDirectory() as left:
+                environment = {**os.environ, "TMPDIR": left}
+                with subprocess.Popen([sys.executable, "-c", PARENT, how], stdout=subprocess.PIPE, env=environment) as run:
+                    proxy, *others = map(int, run.stdout.readline().split())
+                    try:
+                        run.kill()
+                        run.wait(PATIENCE)
+                        self.is_gone(proxy, f"the death of a parent that started it by {how}")
+                        self.assertTrue(all(map(lives, others)))
+                    finally:
+                        for other in others:
+                            os.kill(other, signal.SIGKILL)
+
+    def is_gone(self, proxy, what):
+        """Waits until a process is gone."""
+        end = time.monotonic() + PATIENCE
+        while lives(proxy):
+            self.assertLess(time.monotonic(), end, f"the proxy lives on after {what}")
+            time.sleep(0.01)
 
     def test_sigterm_to_the_parent_ends_it(self):
         self.ends_with("time.sleep(60)", signal.SIGTERM)

@@ -1,6 +1,7 @@
 """The Python package with `http.server` and `urllib`: what a client sees under the toxics. Needs nothing installed."""
 import contextlib
 import http.client
+import socket
 import time
 import unittest
 import urllib.error
@@ -43,6 +44,24 @@ class HttpTests(unittest.TestCase):
         link = toxi.wait_for_link("shop", 1, PATIENCE)
         self.assertEqual((link.up_end, link.down_end), ("closed", "closed"))
         self.assertGreater(link.down, 100_000)
+
+    def test_a_link_that_does_not_end_says_why(self):
+        toxi = self.served(Rule("shop", [Latency(latency=1, toxicity=0.5)]))
+        with self.assertRaisesRegex(TimeoutError, "; no connection yet$"):
+            toxi.wait_for_link("shop", 1, 0.1)
+        with socket.create_connection(toxi.address("shop"), PATIENCE):
+            # The upstream is reached a moment later.
+            end = time.monotonic() + PATIENCE
+            while toxi._printed.open_for("shop", 1) is None and time.monotonic() < end:
+                time.sleep(0.01)
+            with self.assertRaisesRegex(TimeoutError, r"; link 1 is open since \d+\.\d s: close the client's connection$"):
+                toxi.wait_for_link("shop", 1, 0.1)
+            with self.assertRaisesRegex(TimeoutError, "; no connection 2 yet$"):
+                toxi.wait_for_link("shop", 2, 0.1)
+        toxi.wait_for_link("shop", 1, PATIENCE)
+        # What the program tells for this alone isn't shown.
+        self.assertEqual([line.split()[0] for line in toxi.lines()], ["listening", "link"])
+        self.assertNotIn("has toxicity", toxi.report())
 
     def test_slow_answer_times_out(self):
         toxi = self.served(Rule("shop", [Latency(latency=LATE)]))
