@@ -1,6 +1,6 @@
 #!/usr/bin/env python3
-"""Makes the wheel of the Python package with the program in it, its man page and its completions, and prints its name. What it says of itself is that of python/pyproject.toml. The same input
-gives the same wheel."""
+"""Makes the wheel of the Python package with the program in it, its man page and its completions, and prints its name. What it says of itself is that of
+python/pyproject.toml. The same input gives the same wheel."""
 import argparse
 import base64
 import hashlib
@@ -35,8 +35,8 @@ def wheel_file(machine):
 
 
 def contents(project, version, machine, tree):
-    """The name, bytes and mode of each file but RECORD. pip puts the program among the commands of the environment, and `share` beside their folder, where `man` and
-    the shells look."""
+    """The name, bytes and mode of each file but RECORD. pip puts the program among the commands of the environment, and `share` beside their folder, where
+    `man` and the shells look."""
     name = f"{project['name']}-{version}"
     for path in sorted(PACKAGE.rglob("*")):
         if path.is_file() and "__pycache__" not in path.parts:

@@ -26,7 +26,7 @@ def milliseconds(connect_timeout: ConnectTimeout) -> Optional[int]:
             "for half a second write connect_timeout=500 or connect_timeout=timedelta(seconds=0.5)"
         )
     if connect_timeout < LEAST_EXPECTED:
-        text = f"connect_timeout={connect_timeout} is in milliseconds: write timedelta(seconds={connect_timeout}) for seconds, timedelta(milliseconds={connect_timeout}) for this"
+        meant = f"timedelta(seconds={connect_timeout}) for seconds, timedelta(milliseconds={connect_timeout}) for this"
         # The call of `Toxi` stands two levels above.
-        warnings.warn(text, ToxiWarning, stacklevel=3)
+        warnings.warn(f"connect_timeout={connect_timeout} is in milliseconds: write {meant}", ToxiWarning, stacklevel=3)
     return connect_timeout

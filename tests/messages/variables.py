@@ -69,7 +69,8 @@ def what_it_has_is_refused_by_name(program, folder):
 def other_commands_read_none(program, folder):
     Path(folder, "proxies.json").write_text(POPULATE, encoding="utf-8")
     for command in ("check", "forecast", "pick"):
-        ran = subprocess.run([program, command], env=os.environ | FILES | {"TOXI_SEED": "1"}, capture_output=True, cwd=folder, timeout=PATIENCE, encoding="utf-8", check=False)
+        variables = os.environ | FILES | {"TOXI_SEED": "1"}
+        ran = subprocess.run([program, command], env=variables, capture_output=True, cwd=folder, timeout=PATIENCE, encoding="utf-8", check=False)
         assert ran.returncode == 2 and "  --config <FILE>\n  --script <FILE>\n" in ran.stderr, ran.stderr
 
 
