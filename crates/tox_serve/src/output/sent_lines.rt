@@ -1,11 +1,15 @@
 //! Sends the lines of serving to the thread that writes them. Each is made whole before it is sent.
+ghost use Rattle.std.specs.Prelude.{◌≤◌, length};
+ghost use Rattle.tox_serve.specs.output.LineText.{IsLine};
+ghost use Rattle.tox_serve.specs.output.OpenLine.{IsCourseLine, opened_in};
+
 use crate::link::course::{Course, Courses};
 use crate::link::end::LinkEnd;
-use crate::output::LineForm;
 use crate::output::channel::LineChannel;
 use crate::output::json_lines::{link_json, listening_json, total_json};
 use crate::output::open_line::{OpenStream, applied_names, open_json, open_text};
 use crate::output::serve_lines::{link_text, listening_text, total_text};
+use crate::output::{LineForm, LineText};
 use crate::proxy::listening::Listening;
 use crate::run::ServeRun;
 use std::alloc::AllocError;
@@ -68,6 +72,22 @@ fn print_course<R: Wait>(
     client: &str,
     course: &Course,
 ) {
+    if let Some(line) = course_line(run, proxy, number, client, course) {
+        run.lines.send(rt, line.as_slice());
+    }
+}
+
+/// The line of what one stream of a link meets. None if it is too long; none is.
+fn course_line(
+    run: &ServeRun<'_>,
+    proxy: &str,
+    number: u64,
+    client: &str,
+    course: &Course,
+) -> Option<LineText>
+    ensures { IsCourseLine run.now.options.form run.now.script.now proxy.now number client.now
+        course.now result }
+{
     let stream = course.stream;
     let chain = run.script.chain(proxy, number, stream);
     let drawing = Drawing::new(chain.lanes(), &course.words);
@@ -80,12 +100,17 @@ fn print_course<R: Wait>(
         client,
         toxics: &toxics,
     };
-    let line = match run.options.form {
-        LineForm::Words => open_text(&opened),
-        LineForm::Json => open_json(&opened),
-    };
-    if let Some(line) = line {
-        run.lines.send(rt, line.as_slice());
+    open_line(run.options.form, &opened)
+}
+
+/// The line of a stream in a form. None if it is too long; none is.
+fn open_line(form: LineForm, opened: &OpenStream<'_>) -> Option<LineText>
+    requires few { length opened.now.toxics.now ≤ 32 }
+    ensures { IsLine result (opened_in form opened.now) }
+{
+    match form {
+        LineForm::Words => open_text(opened),
+        LineForm::Json => open_json(opened),
     }
 }
 
