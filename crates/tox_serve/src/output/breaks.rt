@@ -62,7 +62,8 @@ impl Breaks {
 
     fn broken(&mut self, place: usize, reason: BreakReason) -> Option<&mut Broken> {
         let kind = reason.kind()?;
-        self.proxies.get_mut(place)?.get_mut(kind)
+        let kinds = self.proxies.get_mut(place)?;
+        Some(&mut kinds[kind])
     }
 
     /// How long until the next report. None if no link waits for one.

@@ -4,18 +4,17 @@ ghost use Rattle.tox_serve.specs.output.LineText.{IsLine};
 ghost use Rattle.tox_serve.specs.output.OpenLine.{IsCourseLine, opened_in};
 
 use crate::link::course::{Course, Courses};
-use crate::link::end::LinkEnd;
 use crate::output::channel::LineChannel;
 use crate::output::json_lines::{link_json, listening_json, total_json};
 use crate::output::open_line::{OpenStream, applied_names, open_json, open_text};
 use crate::output::serve_lines::{link_text, listening_text, total_text};
 use crate::output::{LineForm, LineText};
+use crate::proxy::link_book::{ClosedBook, Settled};
 use crate::proxy::listening::Listening;
 use crate::run::ServeRun;
 use std::alloc::AllocError;
 use std::net::TcpStream;
 use std::sync::Wait;
-use tox_link::Book;
 use tox_words::Drawing;
 
 /// What stands for the address of a client that has gone.
@@ -114,22 +113,27 @@ fn open_line(form: LineForm, opened: &OpenStream<'_>) -> Option<LineText>
     }
 }
 
-/// Prints how a link of a proxy ended. The line is dropped if there is no room for it.
-pub(crate) fn print_link<R: Wait>(rt: &R, run: &ServeRun<'_>, name: &str, end: &LinkEnd) {
+/// Prints how a link of a proxy ended that is settled in its book. The line is dropped if there is no room for it.
+pub(crate) fn print_link<R: Wait>(rt: &R, run: &ServeRun<'_>, name: &str, settled: &Settled) {
     let line = match run.options.form {
-        LineForm::Words => link_text(name, end),
-        LineForm::Json => link_json(name, end),
+        LineForm::Words => link_text(name, settled.end()),
+        LineForm::Json => link_json(name, settled.end()),
     };
     if let Some(line) = line {
         run.lines.send(rt, line.as_slice());
     }
 }
 
-/// Prints the totals of a proxy's book. Waits until there is room.
-pub(crate) fn print_total<R: Wait>(rt: &R, run: &ServeRun<'_>, name: &str, book: &Book) {
+/// Prints the totals of a proxy's book, which is closed. Waits until there is room.
+pub(crate) fn print_total<R: Wait>(
+    rt: &R,
+    run: &ServeRun<'_>,
+    name: &str,
+    closed: &ClosedBook<'_>,
+) {
     let line = match run.options.form {
-        LineForm::Words => total_text(name, book),
-        LineForm::Json => total_json(name, book),
+        LineForm::Words => total_text(name, closed.book()),
+        LineForm::Json => total_json(name, closed.book()),
     };
     if let Some(line) = line {
         run.lines.send_in_turn(rt, line.as_slice());
