@@ -3,13 +3,11 @@ pub mod Begun
 pub mod Driven
 pub mod Directions
 pub mod DueOrder
-pub mod History
 pub mod OpenLinks
 pub mod Peers
 pub mod Places
 pub mod Ready
 pub mod Reports
-pub mod Served
 pub mod Settled
 pub mod Steps
 pub mod Timers

@@ -1,2 +1,1 @@
 pub mod DueLemmas
-pub mod SourceLemmas

@@ -1,6 +1,7 @@
 //! The two sockets of a served link.
 ghost use Rattle.std.specs.Prelude.{◌≡◌, IfSome, None};
 ghost use Rattle.std.specs.Arc.{arc_value};
+ghost use Rattle.tox_sockets.specs.Streams.{source_of, target_of};
 
 use crate::abort_cause::{AbortCause, NOT_ABORTED};
 use crate::socket_calls::prepare_connection;
@@ -125,12 +126,18 @@ impl LinkSockets {
     /// The ends of a stream. Upstream goes from the client to the server, and downstream comes back.
     pub fn ends_of(&self, stream: Stream) -> Sockets<'_>
         ensures link { result.link.now ≡ self.now }
-        ensures stream { result.stream ≡ stream }
+        ensures source { result.source.now ≡ source_of stream self.now }
+        ensures target { result.target.now ≡ target_of stream self.now }
         ensures fresh { result.aborted ≡ None }
     {
+        let (source, target) = match stream {
+            Stream::Upstream => (&self.client, &self.server),
+            Stream::Downstream => (&self.server, &self.client),
+        };
         Sockets {
             link: self,
-            stream,
+            source,
+            target,
             aborted: None,
         }
     }

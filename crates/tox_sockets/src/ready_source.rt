@@ -1,95 +1,127 @@
 //! Reading a socket of a link that doesn't wait, until the link is cut.
-ghost use Rattle.std.specs.Prelude.{◌≡◌, ◌<◌, ◌≤◌, ◌||◌, None, false, true, IfNone, IfOk, IfSome, OnErr, OnOk, length, nat_eq};
+ghost use Rattle.std.specs.Prelude.{◌≡◌, ◌<◌, ◌≤◌, ◌||◌, false, true, None, IfNone, IfOk, IfSome, OnErr, OnOk, length, nat_eq};
+ghost use Rattle.std.specs.Arc.{arc_value};
 ghost use Rattle.tox_sockets.specs.Streams.{source_of};
 
 use crate::failures::note_failure;
+use crate::link_sockets::LinkSockets;
 use crate::readiness::{read_on, would_wait};
-use crate::sockets::Sockets;
-use crate::source_state::SourceState;
+use std::alloc::Global;
 use std::net::TcpStream;
+use std::sync::Arc;
 use tox_link::PollSource;
-use tox_time::EndFault;
+use tox_time::{EndFault, Stream};
 
 /// The source of a stream, a socket that doesn't wait. It is read only while it may give something, and until its link is cut:
 /// see [`UntilCut`](crate::UntilCut).
 #[derive(Drop)]
-pub struct ReadySource<'a> {
-    ends: Sockets<'a>,
-    state: SourceState,
+pub struct ReadySource {
+    link: Arc<LinkSockets, Global>,
+    pub stream: Stream,
+    /// Whether a read may give something.
+    readable: bool,
+    /// Whether its peer was reported to send no more. A short read then doesn't mean that the socket is empty: the end is still
+    /// to be read.
+    closing: bool,
+    /// Whether urgent data may have come. A read stops where they stand, so a short one doesn't mean that the socket is empty,
+    /// until a read would wait.
+    urgent: bool,
+    failed: bool,
+    /// Whether it has answered that it would wait.
+    waits: bool,
 }
 
-impl<'a> ReadySource<'a> {
-    /// The source of a stream, of which this is known.
-    pub fn new(ends: Sockets<'a>, state: SourceState) -> ReadySource<'a>
-        ensures ends { result.ends ≡ ends.entry }
-        ensures state { result.state ≡ state }
+impl ReadySource {
+    /// A new reader of a stream's source, which may have something to read, and urgent data. `closing`: its peer was reported to have
+    /// closed its writing half. None where the link can't be shared by one more.
+    pub fn new(
+        link: &Arc<LinkSockets, Global>,
+        stream: Stream,
+        closing: bool,
+    ) -> Option<ReadySource>
+        ensures link { IfSome result (λ reader. arc_value reader.link ≡ arc_value link.now) }
+        ensures stream { IfSome result (λ reader. reader.stream ≡ stream) }
+        ensures working { IfSome result (λ reader. reader.failed ≡ false) }
+        ensures fresh { IfSome result (λ reader. (reader.readable ≡ true)
+            × (reader.closing ≡ closing) × (reader.urgent ≡ true) × (reader.waits ≡ false)) }
     {
-        ReadySource { ends, state }
+        let link = link.clone().ok()?;
+        Some(ReadySource {
+            link,
+            stream,
+            readable: true,
+            closing,
+            urgent: true,
+            failed: false,
+            waits: false,
+        })
     }
 
-    /// What is known of it, to be kept until the next drive.
-    pub fn into_state(self) -> SourceState
-        ensures { result ≡ self.entry.state }
+    /// The system reported that a read may give something, and perhaps that the peer sends no more or has sent urgent data.
+    pub fn note(&mut self, closing: bool, urgent: bool)
+        ensures { self.new ≡ record self.old {
+          readable = true;
+          closing = self.old.closing || closing;
+          urgent = self.old.urgent || urgent;
+        } }
     {
-        self.state
+        self.readable = true;
+        self.closing = self.closing || closing;
+        self.urgent = self.urgent || urgent;
     }
 
     /// The socket that is read.
     fn source(&self) -> &TcpStream
-        ensures { result.now ≡ source_of self.now.ends.stream self.now.ends.link.now }
+        ensures { result.now ≡ source_of self.now.stream (arc_value self.now.link) }
     {
-        self.ends.source()
+        self.link.ends_of(self.stream).source
     }
 }
 
-impl<'a> PollSource for ReadySource<'a> {
-    ghost failed = { λ source. source.state.failed };
+impl PollSource for ReadySource {
+    ghost failed = { λ source. source.failed };
 
     ghost remaining = { λ source. None };
 
-    ghost waits = { λ source. source.state.waits };
+    ghost waits = { λ source. source.waits };
 
     fn poll_read(&mut self, buffer: &mut [u8]) -> Result<Option<usize>, EndFault>
-        requires { self.old.state.failed ≡ false }
+        requires { self.old.failed ≡ false }
         ensures count { IfOk result (λ got. IfSome got (λ n. n ≤ length buffer.new)) }
         ensures waits { IfOk result (λ got. IfNone got
-            ((self.new.state.waits ≡ true) × (self.new.state.readable ≡ false))) }
-        ensures more { IfOk result (λ got. IfSome got (λ n. 0 < n → self.new.state.readable
-            ≡ (self.old.state.closing || self.old.state.urgent || nat_eq n (length buffer.new)))) }
-        ensures urgent { IfOk result (λ got. IfSome got (λ n. self.new.state.urgent ≡ self.old.state.urgent)) }
-        ensures working { OnOk result (self.new.state.failed ≡ false) }
-        ensures fault { OnErr result (self.new.state.failed ≡ true) }
-        ensures kept { (self.new.state.closing ≡ self.old.state.closing) × (self.new.ends ≡ self.old.ends) }
+            ((self.new.waits ≡ true) × (self.new.readable ≡ false))) }
+        ensures more { IfOk result (λ got. IfSome got (λ n. 0 < n → self.new.readable
+            ≡ (self.old.closing || self.old.urgent || nat_eq n (length buffer.new)))) }
+        ensures urgent { IfOk result (λ got. IfSome got (λ n. self.new.urgent ≡ self.old.urgent)) }
+        ensures working { OnOk result (self.new.failed ≡ false) }
+        ensures fault { OnErr result (self.new.failed ≡ true) }
+        ensures kept { (self.new.closing ≡ self.old.closing) × (self.new.stream ≡ self.old.stream) }
     {
-        if self.ends.link.is_cut() {
+        if self.link.is_cut() {
             return Ok(Some(0));
         }
-        if !self.state.readable {
-            self.state.waits = true;
+        if !self.readable {
+            self.waits = true;
             return Ok(None);
         }
         let answer = read_on(self.source(), buffer);
-        if self.ends.link.is_cut() {
+        if self.link.is_cut() {
             return Ok(Some(0));
         }
         match answer {
             Ok(count) => {
-                self.state.readable = may_give_more(
-                    self.state.closing || self.state.urgent,
-                    count,
-                    buffer.len(),
-                );
+                self.readable = may_give_more(self.closing || self.urgent, count, buffer.len());
                 Ok(Some(count))
             }
             Err(error) if would_wait(&error) => {
-                self.state.readable = false;
-                self.state.urgent = false;
-                self.state.waits = true;
+                self.readable = false;
+                self.urgent = false;
+                self.waits = true;
                 Ok(None)
             }
             Err(error) => {
-                note_failure(self.ends.link, self.ends.stream, &error);
-                self.state.failed = true;
+                note_failure(&self.link, self.stream, &error);
+                self.failed = true;
                 Err(EndFault)
             }
         }

@@ -1,24 +1,25 @@
 //! The two sockets of a served link, as the ends of one direction.
 ghost use Rattle.std.specs.Prelude.{◌≡◌, None};
 ghost use Rattle.tox_sockets.specs.Shutting.{shut_of};
-ghost use Rattle.tox_sockets.specs.Streams.{source_of, target_of};
 
 use crate::abort_cause::AbortCause;
 use crate::link_sockets::LinkSockets;
 use crate::socket_calls::{read_now, reset};
 use std::net::{Shutdown, TcpStream};
 use tox_link::Hangup;
-use tox_time::{Ending, Stream};
+use tox_time::Ending;
 
 /// How many reads at most drop what a peer has sent.
 const MAX_READS: u64 = 1_024;
 
-/// The sockets of one direction: [`LinkSockets::ends_of`] alone makes them.
+/// The sockets of one direction.
 #[derive(Clone, Copy)]
 pub struct Sockets<'a> {
-    pub(crate) link: &'a LinkSockets,
-    pub(crate) stream: Stream,
-    pub(crate) aborted: Option<AbortCause>,
+    pub link: &'a LinkSockets,
+    pub source: &'a TcpStream,
+    pub target: &'a TcpStream,
+    /// Why the link was aborted before the stream ended, if it was.
+    pub aborted: Option<AbortCause>,
 }
 
 /// What is shut where a stream has ended.
@@ -46,50 +47,11 @@ fn shut_of(ending: Ending, source_ended: bool) -> Shut
 }
 
 impl<'a> Sockets<'a> {
-    /// The stream whose ends they are.
-    pub fn stream(&self) -> Stream
-        ensures { result ≡ self.now.stream }
-    {
-        self.stream
-    }
-
-    /// Why the link was aborted before the stream ended. None where it wasn't, or the stream hasn't been hung up.
-    pub fn aborted(&self) -> Option<AbortCause>
-        ensures { result ≡ self.now.aborted }
-    {
-        self.aborted
-    }
-
-    /// Ends the link from inside: see [`LinkSockets::abort`].
-    pub fn abort(&self, cause: AbortCause) {
-        self.link.abort(cause);
-    }
-
-    /// The socket that the stream comes from.
-    pub(crate) fn source(&self) -> &'a TcpStream
-        ensures { result.now ≡ source_of self.now.stream self.now.link.now }
-    {
-        match self.stream {
-            Stream::Upstream => &self.link.client,
-            Stream::Downstream => &self.link.server,
-        }
-    }
-
-    /// The socket that it goes to.
-    pub(crate) fn target(&self) -> &'a TcpStream
-        ensures { result.now ≡ target_of self.now.stream self.now.link.now }
-    {
-        match self.stream {
-            Stream::Upstream => &self.link.server,
-            Stream::Downstream => &self.link.client,
-        }
-    }
-
     /// Shuts the target's writing half, unless the link was cut: its source may have ended by that alone, and a peer that
     /// hears an end takes no reset after it.
     fn end_writing(&self) {
         if !self.link.is_cut() {
-            let _ = self.target().shutdown(Shutdown::Write);
+            let _ = self.target.shutdown(Shutdown::Write);
         }
     }
 
@@ -100,17 +62,17 @@ impl<'a> Sockets<'a> {
         if !self.link.cut_to_close() {
             return;
         }
-        let _ = self.target().shutdown(Shutdown::Write);
-        drop_unread(self.target());
-        let _ = self.source().shutdown(Shutdown::Both);
-        let _ = self.target().shutdown(Shutdown::Both);
+        let _ = self.target.shutdown(Shutdown::Write);
+        drop_unread(self.target);
+        let _ = self.source.shutdown(Shutdown::Both);
+        let _ = self.target.shutdown(Shutdown::Both);
     }
 
     /// Resets both sockets, unless the link was cut before: what was written before a close is still on its way.
     pub fn reset(&self) {
         if self.link.cut_to_reset() {
-            reset_surely(self.source());
-            reset_surely(self.target());
+            reset_surely(self.source);
+            reset_surely(self.target);
         }
     }
 }

@@ -36,7 +36,7 @@ impl UntilCut {
     fn source(&self) -> &TcpStream
         ensures { result.now ≡ source_of self.now.stream (arc_value self.now.link) }
     {
-        self.link.ends_of(self.stream).source()
+        self.link.ends_of(self.stream).source
     }
 }
 

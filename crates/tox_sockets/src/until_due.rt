@@ -50,7 +50,7 @@ impl<'a, 'r, R: Wait + Clock> UntilDue<'a, 'r, R> {
         ensures clock { result.clock.start ≡ clock.entry.start }
     {
         let due = reset_due(ops);
-        let socket = link.ends_of(stream).target();
+        let socket = link.ends_of(stream).target;
         if due.is_some() {
             // A socket that is gone by now refuses the option, and its first write tells.
             let _ = socket.set_write_timeout(Some(Duration::from_millis(MAX_WAIT)));

@@ -6,7 +6,7 @@ ghost use Rattle.tox_link.specs.direction.Follows.{IsHeld, IsNew};
 ghost use Rattle.tox_link.specs.Reports.{written_before};
 
 use crate::comparing::assert_equal_at;
-use crate::link::link_ends::{NoHangup, Noted, RestingClock};
+use crate::link::link_ends::{Noted, RestingClock};
 use crate::link::polled_ends::BusyEnd;
 use crate::link::schedules::{drawn_chain, instants_of};
 use rand_pcg::Lcg64Xsh32;
@@ -203,11 +203,13 @@ fn driven_to_end(
 {
     let clock = RestingClock::new(rt);
     let driven = drive_on(rt, generator, &mut link, &clock, notes, &mut source, sink);
-    driven_ending(&finish(&link, &clock, driven, &mut NoHangup))
+    driven_ending(&finish(link, &clock, driven, source))
 }
 
 /// What a report says of the ending.
-fn driven_ending(finished: &Result<TimedReport<()>, LinkFault>) -> Result<DrivenEnding, LinkFault> {
+fn driven_ending(
+    finished: &Result<TimedReport<BusyEnd<MemorySource>>, LinkFault>,
+) -> Result<DrivenEnding, LinkFault> {
     match finished {
         Ok(timed) => Ok(DrivenEnding {
             ending: timed.report.ending,

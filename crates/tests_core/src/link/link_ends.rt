@@ -180,13 +180,3 @@ impl Hangup for HungUp {
         self.at = self.micros.load(Ordering::SeqCst);
     }
 }
-
-/// Nothing hangs on these ends.
-#[derive(Drop)]
-pub struct NoHangup;
-
-impl Hangup for NoHangup {
-    ghost calls = { λ _. None };
-
-    fn hang_up(&mut self, _ending: Ending, _source_ended: bool) {}
-}

@@ -1,8 +1,7 @@
 //! Links in memory, with too little memory and too few threads.
-ghost use Rattle.std.specs.Prelude.{◌≡◌, false};
+ghost use Rattle.std.specs.Prelude.{◌≡◌, false, None};
 ghost use Rattle.tox_time.specs.Time.{IsInstant};
 
-use crate::link::link_ends::NoHangup;
 use std::alloc::Global;
 use std::process::Abort;
 use std::sync::atomic::{AtomicU64, Ordering};
@@ -11,8 +10,8 @@ use std::thread::Threads;
 use tests_support::{CountingGate, Refusals, Scarcity, Tried, try_each, with_stacks};
 use tox_compile::compile;
 use tox_defs::Chain;
-use tox_link::{Clock, Ends, LinkFault, NoNotes, carry};
-use tox_time::{MemorySink, MemorySource, Micros};
+use tox_link::{Clock, Ends, Hangup, LinkFault, NoNotes, carry};
+use tox_time::{Ending, MemorySink, MemorySource, Micros};
 use tox_words::Words;
 
 /// More pages than a link needs.
@@ -35,6 +34,16 @@ impl Clock for StandingClock {
     fn rest(&self, _until: Micros) {}
 
     ghost instants = { λ _ _ reported. reported };
+}
+
+/// Nothing hangs on these ends.
+#[derive(Drop)]
+struct NoHangup;
+
+impl Hangup for NoHangup {
+    ghost calls = { λ _. None };
+
+    fn hang_up(&mut self, _ending: Ending, _source_ended: bool) {}
 }
 
 /// How many bytes a link took and wrote.

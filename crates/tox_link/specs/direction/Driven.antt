@@ -10,7 +10,6 @@ use Rattle.tox_link.specs.declared.direction.unwritten.Unwritten.{Unwritten}
 use Rattle.tox_link.specs.declared.link_core.act.Act.{Act}
 use Rattle.tox_link.specs.declared.link_core.act.Act.TheVariants.{Write, WaitUntil, WaitForInput, End}
 use Rattle.tox_link.specs.declared.link_fault.LinkFault.{LinkFault}
-use Rattle.tox_link.specs.declared.link_report.TimedReport.{TimedReport}
 use Rattle.tox_link.specs.declared.notes.LinkEvent.{LinkEvent}
 use Rattle.tox_link.specs.link_core.Acts.{Says, wait_act}
 use Rattle.tox_link.specs.link_core.Core.{core_position}
@@ -126,15 +125,3 @@ pub record History (reported : ℕ → Type 0) (link : PolledLink) (left : Optio
   pub after : Option (List ℕ)
   pub read : given ≡ prepend_known came left
   pub follows : Follows means reported link log came before after
-
--- what a direction reports that has ended so
-abbrev pub report_of : PolledLink → Ending → TimedReport Unit
-report_of link ending = record {
-  report = record { taken = link.window.stop; written = link.written; ending = ending; source = link.source; reader = tt };
-  reading = link.core.latest;
-}
-
--- what a direction reports that was driven so far
-abbrev pub finished : PolledLink → Result Ending LinkFault → Result (TimedReport Unit) LinkFault
-finished link (Ok ending) = Ok (report_of link ending)
-finished link (Err fault) = Err fault

@@ -1,9 +1,9 @@
 -- The line of a stream of a link whose upstream is reached.
-use Rattle.std.specs.Prelude.{◌≡◌, ℕ, Bool, true, false, List, [], ◌∷◌, ◌++◌, Option, codes, decimal, flat_map, map}
+use Rattle.std.specs.Prelude.{ℕ, Bool, true, false, List, [], ◌∷◌, ◌++◌, codes, decimal, flat_map, map}
 use Rattle.std.specs.Borrow.{Bor}
 use Rattle.std.specs.List.{enumerate_from, zip}
 use Rattle.tox_time.specs.streams.StreamName.{stream_name}
-use Rattle.tox_words.specs.Draw.{Draws, draw_in}
+use Rattle.tox_words.specs.Draw.{Draws}
 use Rattle.tox_defs.specs.chain.Applied.{is_applied}
 use Rattle.tox_defs.specs.declared.chain.Entry.{Entry}
 use Rattle.tox_text.specs.Json.{array_text}
@@ -11,14 +11,7 @@ use Rattle.tox_text.specs.JsonLine.{event_text, key_text, number_field, text_fie
 use Rattle.tox_text.specs.Names.{visible_name}
 use Rattle.tox_text.specs.declared.json.JsonItem.{JsonItem}
 use Rattle.tox_text.specs.declared.json.JsonItem.TheVariants.{Text}
-use Rattle.tox_script.specs.Covering.{toxics_for}
-use Rattle.tox_script.specs.Rule.{Rules}
-use Rattle.tox_serve.specs.declared.link.course.Course.{Course}
-use Rattle.tox_serve.specs.declared.output.form.LineForm.{LineForm}
-use Rattle.tox_serve.specs.declared.output.form.LineForm.TheVariants.{Words, Json}
 use Rattle.tox_serve.specs.declared.output.open_line.OpenStream.{OpenStream}
-use Rattle.tox_serve.specs.declared.output.text.LineText.{LineText}
-use Rattle.tox_serve.specs.output.LineText.{IsLine}
 
 -- a name, if its toxic is applied
 abbrev pub name_if : Bool → List ℕ → List (List ℕ)
@@ -57,24 +50,3 @@ open_object opened =
     ++ (text_field (codes "stream") (stream_name opened.stream)
     ++ (text_field (codes "client") opened.client.now
     ++ ((key_text (codes "toxics") ++ array_text (text_items opened.toxics.now)) ++ codes "}\n")))))
-
--- a stream as its line tells it: the toxics that a script has for it, and of them those that its words apply
-pub record IsOpened (script : Rules) (name : List ℕ) (link : ℕ) (address : List ℕ) (course : Course) (opened : OpenStream) : Type 0 where
-  pub proxy : opened.proxy.now ≡ name
-  pub number : opened.number ≡ link
-  pub stream : opened.stream ≡ course.stream
-  pub client : opened.client.now ≡ address
-  pub toxics : let its_toxics = toxics_for name link course.stream script in
-      map (λ toxic. toxic.now) opened.toxics.now ≡ applied_names (draw_in its_toxics.chain.lanes course.words) its_toxics.chain.entries its_toxics.names
-
--- a stream in a form of lines
-abbrev pub opened_in : LineForm → OpenStream → List ℕ
-opened_in Words opened = open_line opened
-opened_in Json opened = open_object opened
-
--- a line is that of a course's stream
-pub record IsCourseLine (form : LineForm) (script : Rules) (name : List ℕ) (link : ℕ) (address : List ℕ) (course : Course) (line : Option LineText) : Type 0
-  where
-    pub opened : OpenStream
-    pub its : IsOpened script name link address course opened
-    pub text : IsLine line (opened_in form opened)

@@ -1,9 +1,8 @@
 -- A direction of a course at which nothing has come, and a link of such directions.
-use Rattle.std.specs.Prelude.{◌≡◌, ℕ, Bool, true, false, List, None, fold, IfSome}
+use Rattle.std.specs.Prelude.{◌≡◌, ℕ, Bool, true, false, List, None, fold}
 use Rattle.tox_time.specs.declared.streams.stream.Stream.{Stream}
 use Rattle.tox_link.specs.Meaning.{MeansPlan}
 use Rattle.tox_link.specs.direction.Follows.{IsNew}
-use Rattle.tox_log.specs.files.FileName.{log_name}
 use Rattle.tox_sockets.specs.ResetDue.{after_op}
 use Rattle.tox_serve.specs.declared.link.course.Course.{Course}
 use Rattle.tox_serve.specs.declared.link.opening.Opened.{Opened}
@@ -15,12 +14,13 @@ use Rattle.tox_serve.specs.declared.workers.open_direction.DirectionState.TheVar
 use Rattle.tox_serve.specs.declared.workers.open_direction.OpenDirection.{OpenDirection}
 use Rattle.tox_serve.specs.declared.workers.open_link.OpenLink.{OpenLink}
 use Rattle.tox_serve.specs.declared.workers.taken_at.TakenAt.{TakenAt}
-use Rattle.tox_serve.specs.workers.Served.{IsServedUnder}
 
--- nothing has come, it gives what the course's plan means under its words, and of its ends nothing is known but whether the source's
--- peer sends no more
+-- nothing has come, it gives what the course's plan means under its words, and its ends are those of the course's stream, of which
+-- nothing is known but whether the source's peer sends no more
 pub record BeginsCourse {R : Type 0} (course : Course) (closing : Bool) (flow : Flow R) : Type 0 where
   pub its : flow.stream ≡ course.stream
+  pub source : flow.source.stream ≡ course.stream
+  pub sink : flow.sink.stream ≡ course.stream
   pub readable : flow.source.readable ≡ true
   pub closes : flow.source.closing ≡ closing
   pub writable : flow.sink.writable ≡ true
@@ -50,12 +50,9 @@ pub record IsLinkOf {R : Type 0} (client : Client) (link : OpenLink R) : Type 0 
   pub proxy : link.proxy ≡ client.proxy
   pub since : link.since ≡ client.since
 
--- a direction begins the course that the numbered connection of a proxy has on a stream in a run, serves it, and notes it in the log of that
--- stream alone
-pub record HasCourse {R : Type 0} (run : ServeRun) (name : List ℕ) (place number : ℕ) (stream : Stream)
+-- a direction begins the course that the numbered connection of a proxy has on a stream in a run
+pub record HasCourse {R : Type 0} (run : ServeRun) (name : List ℕ) (number : ℕ) (stream : Stream)
     (closing : Bool) (direction : OpenDirection R) : Type 0 where
   pub course : Course
   pub its : IsCourse run.script.now run.seed name number stream course
   pub begins : IsNewDirection course closing direction
-  pub served : IsServedUnder course direction.state
-  pub noted : IfSome begins.flow.notes (λ log. log ≡ log_name name place number stream)

@@ -1,7 +1,7 @@
 -- What a report of the system, or a log, changes at a direction.
 use Rattle.std.specs.Prelude.{◌≡◌, ℕ, Bool, true, false, not, ◌&&◌, ◌||◌, List, Option, if◌then◌else◌}
-use Rattle.tox_sockets.specs.declared.sink_state.SinkState.{SinkState}
-use Rattle.tox_sockets.specs.declared.source_state.SourceState.{SourceState}
+use Rattle.tox_sockets.specs.declared.ready_sink.ReadySink.{ReadySink}
+use Rattle.tox_sockets.specs.declared.ready_source.ReadySource.{ReadySource}
 use Rattle.tox_serve.specs.declared.workers.flow.Flow.{Flow}
 use Rattle.tox_serve.specs.declared.workers.open_direction.DirectionState.{DirectionState}
 use Rattle.tox_serve.specs.declared.workers.open_direction.DirectionState.TheVariants.{Going, Ended, Driven}
@@ -9,18 +9,18 @@ use Rattle.tox_serve.specs.declared.workers.open_direction.OpenDirection.{OpenDi
 use Rattle.tox_serve.specs.declared.workers.socket_event.SocketEvent.{SocketEvent}
 
 -- a source that may give something, and sends no more or has sent urgent data if that was reported now or before
-abbrev pub reported_source : SocketEvent → SourceState → SourceState
+abbrev pub reported_source : SocketEvent → ReadySource → ReadySource
 reported_source event source =
     if event.readable
     then record source { readable = true; closing = source.closing || event.closing; urgent = source.urgent || event.urgent }
     else source
 
 -- a target that may take something
-abbrev pub reported_sink : SocketEvent → SinkState → SinkState
+abbrev pub reported_sink : {R : Type 0} → SocketEvent → ReadySink R → ReadySink R
 reported_sink event sink = if event.writable then record sink { writable = true } else sink
 
 -- a direction goes on at the same step machine, with these ends and notes
-pub record GoesOnWithEnds {R : Type 0} (old : Flow R) (source : SourceState) (sink : SinkState) (notes : Option (List ℕ)) (state : DirectionState R) : Type 0
+pub record GoesOnWithEnds {R : Type 0} (old : Flow R) (source : ReadySource) (sink : ReadySink R) (notes : Option (List ℕ)) (state : DirectionState R) : Type 0
   where
     pub flow : Flow R
     pub going : state ≡ Going flow

@@ -1,7 +1,4 @@
 //! Why a link broke, as it is reported on standard error.
-ghost use Rattle.std.specs.Prelude.{◌≡◌, ◌<◌, None, IfSome};
-ghost use Rattle.tox_serve.specs.declared.link.break_reason.BreakReason.TheVariants.{Stopped};
-
 use crate::link::end::{Carried, StreamEnd};
 use std::fmt;
 use std::io::ErrorKind;
@@ -39,11 +36,8 @@ impl BreakReason {
         }
     }
 
-    /// The kind of the reason, among those that are reported apart. None: it isn't reported, as a stop.
-    pub(crate) fn kind(self) -> Option<usize>
-        ensures few { IfSome result (λ kind. kind < 8) }
-        ensures told { result ≡ None → self ≡ Stopped }
-    {
+    /// The kind of the reason, among those that are reported apart. None: it isn't reported.
+    pub(crate) fn kind(self) -> Option<usize> {
         match self {
             BreakReason::Name => Some(0),
             BreakReason::Upstream(ErrorKind::ConnectionRefused) => Some(1),

@@ -62,8 +62,7 @@ impl Breaks {
 
     fn broken(&mut self, place: usize, reason: BreakReason) -> Option<&mut Broken> {
         let kind = reason.kind()?;
-        let kinds = self.proxies.get_mut(place)?;
-        Some(&mut kinds[kind])
+        self.proxies.get_mut(place)?.get_mut(kind)
     }
 
     /// How long until the next report. None if no link waits for one.

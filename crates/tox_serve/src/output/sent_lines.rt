@@ -1,20 +1,17 @@
 //! Sends the lines of serving to the thread that writes them. Each is made whole before it is sent.
-ghost use Rattle.std.specs.Prelude.{◌≤◌, length};
-ghost use Rattle.tox_serve.specs.output.LineText.{IsLine};
-ghost use Rattle.tox_serve.specs.output.OpenLine.{IsCourseLine, opened_in};
-
 use crate::link::course::{Course, Courses};
+use crate::link::end::LinkEnd;
+use crate::output::LineForm;
 use crate::output::channel::LineChannel;
 use crate::output::json_lines::{link_json, listening_json, total_json};
 use crate::output::open_line::{OpenStream, applied_names, open_json, open_text};
 use crate::output::serve_lines::{link_text, listening_text, total_text};
-use crate::output::{LineForm, LineText};
-use crate::proxy::link_book::{ClosedBook, Settled};
 use crate::proxy::listening::Listening;
 use crate::run::ServeRun;
 use std::alloc::AllocError;
 use std::net::TcpStream;
 use std::sync::Wait;
+use tox_link::Book;
 use tox_words::Drawing;
 
 /// What stands for the address of a client that has gone.
@@ -71,22 +68,6 @@ fn print_course<R: Wait>(
     client: &str,
     course: &Course,
 ) {
-    if let Some(line) = course_line(run, proxy, number, client, course) {
-        run.lines.send(rt, line.as_slice());
-    }
-}
-
-/// The line of what one stream of a link meets. None if it is too long; none is.
-fn course_line(
-    run: &ServeRun<'_>,
-    proxy: &str,
-    number: u64,
-    client: &str,
-    course: &Course,
-) -> Option<LineText>
-    ensures { IsCourseLine run.now.options.form run.now.script.now proxy.now number client.now
-        course.now result }
-{
     let stream = course.stream;
     let chain = run.script.chain(proxy, number, stream);
     let drawing = Drawing::new(chain.lanes(), &course.words);
@@ -99,41 +80,31 @@ fn course_line(
         client,
         toxics: &toxics,
     };
-    open_line(run.options.form, &opened)
-}
-
-/// The line of a stream in a form. None if it is too long; none is.
-fn open_line(form: LineForm, opened: &OpenStream<'_>) -> Option<LineText>
-    requires few { length opened.now.toxics.now ≤ 32 }
-    ensures { IsLine result (opened_in form opened.now) }
-{
-    match form {
-        LineForm::Words => open_text(opened),
-        LineForm::Json => open_json(opened),
-    }
-}
-
-/// Prints how a link of a proxy ended that is settled in its book. The line is dropped if there is no room for it.
-pub(crate) fn print_link<R: Wait>(rt: &R, run: &ServeRun<'_>, name: &str, settled: &Settled) {
     let line = match run.options.form {
-        LineForm::Words => link_text(name, settled.end()),
-        LineForm::Json => link_json(name, settled.end()),
+        LineForm::Words => open_text(&opened),
+        LineForm::Json => open_json(&opened),
     };
     if let Some(line) = line {
         run.lines.send(rt, line.as_slice());
     }
 }
 
-/// Prints the totals of a proxy's book, which is closed. Waits until there is room.
-pub(crate) fn print_total<R: Wait>(
-    rt: &R,
-    run: &ServeRun<'_>,
-    name: &str,
-    closed: &ClosedBook<'_>,
-) {
+/// Prints how a link of a proxy ended. The line is dropped if there is no room for it.
+pub(crate) fn print_link<R: Wait>(rt: &R, run: &ServeRun<'_>, name: &str, end: &LinkEnd) {
     let line = match run.options.form {
-        LineForm::Words => total_text(name, closed.book()),
-        LineForm::Json => total_json(name, closed.book()),
+        LineForm::Words => link_text(name, end),
+        LineForm::Json => link_json(name, end),
+    };
+    if let Some(line) = line {
+        run.lines.send(rt, line.as_slice());
+    }
+}
+
+/// Prints the totals of a proxy's book. Waits until there is room.
+pub(crate) fn print_total<R: Wait>(rt: &R, run: &ServeRun<'_>, name: &str, book: &Book) {
+    let line = match run.options.form {
+        LineForm::Words => total_text(name, book),
+        LineForm::Json => total_json(name, book),
     };
     if let Some(line) = line {
         run.lines.send_in_turn(rt, line.as_slice());

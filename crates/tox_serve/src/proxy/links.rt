@@ -45,8 +45,8 @@ impl<'a> ProxyLinks<'a> {
     pub(crate) fn end_link<R: Wait>(&self, rt: &R, run: &ServeRun<'_>, end: &LinkEnd) {
         let proxy = self.proxy;
         let mut book = self.book.lock(rt);
-        if let Some(settled) = book.settle(end) {
-            print_link(rt, run, &proxy.name, &settled);
+        if book.settle(end) {
+            print_link(rt, run, &proxy.name, end);
         }
         self.ended.notify_all();
     }
@@ -62,9 +62,7 @@ impl<'a> ProxyLinks<'a> {
         let proxy = self.proxy;
         let mut book = self.ended_book(rt, run);
         book.close();
-        if let Some(closed) = book.closed() {
-            print_total(rt, run, &proxy.name, &closed);
-        }
+        print_total(rt, run, &proxy.name, &book.book);
     }
 
     /// The lock, once all links have ended or were waited for long enough.

@@ -3,21 +3,21 @@ ghost use Rattle.std.specs.Prelude.{◌≡◌, None, fold, IfSome};
 ghost use Rattle.std.specs.Arc.{arc_value};
 ghost use Rattle.tox_sockets.specs.ResetDue.{after_op};
 ghost use Rattle.tox_sockets.specs.Streams.{target_of};
-ghost use Rattle.tox_serve.specs.StreamReports.{IsReportOf};
+ghost use Rattle.tox_serve.specs.StreamReports.{IsReportOf, carried_after};
 ghost use Rattle.tox_serve.specs.link.LinkEnds.{is_write_break};
 
 use crate::link::course::Course;
 use crate::link::end::Carried;
 use crate::link::logs::notes_of;
 use crate::link::source_notes::SourceNotes;
-use crate::link::stream_end::end_carried;
+use crate::link::stream_end::{break_stream, end_stream};
 use crate::proxy::links::ProxyLinks;
 use crate::run::ServeRun;
 use crate::runtime::ServeRuntime;
 use std::alloc::Global;
-use std::sync::Arc;
-use tox_link::{Ends, carry_timed};
-use tox_sockets::{LinkSockets, LinkStart, SinceStart, UntilCut, UntilDue};
+use std::sync::{Arc, Wait};
+use tox_link::{Ends, LinkFault, TimedReport, carry_timed};
+use tox_sockets::{AbortCause, LinkSockets, LinkStart, SinceStart, UntilCut, UntilDue};
 use tox_time::{MAX_BYTES, Real, Stream};
 
 /// One direction of a link, before it is carried.
@@ -82,18 +82,17 @@ pub(crate) fn carry_stream<'a, 'r, R: ServeRuntime>(
     let Direction {
         course,
         reader,
-        sockets,
+        sockets: shared,
     } = direction;
-    let own = link.ends_of(course.stream);
     let clock = SinceStart::new(rt, start);
     let kept = notes_of(rt, run, links, number, course.stream);
-    let mut notes = SourceNotes::of(kept, sockets, course.stream);
+    let mut notes = SourceNotes::of(kept, shared, course.stream);
     let mut ends = Ends {
         writer: Real::new(writer_of(rt, link, &course, clock)),
-        hangup: own,
+        hangup: link.ends_of(course.stream),
     };
     let Course {
-        stream: _,
+        stream,
         words,
         plan,
     } = course;
@@ -110,6 +109,26 @@ pub(crate) fn carry_stream<'a, 'r, R: ServeRuntime>(
         &run.gate,
     );
     let Ends { writer, hangup } = ends;
-    let carried = end_carried(&own, &hangup, &done, &notes);
+    let carried = end_carried(link, stream, &done, hangup.aborted, &notes);
     CarriedStream { carried, writer }
+}
+
+/// Ends a stream by the report of its link, or breaks it off by the fault. Returns what it carried.
+fn end_carried<S, R: Wait>(
+    link: &LinkSockets,
+    stream: Stream,
+    done: &Result<TimedReport<S>, LinkFault>,
+    aborted: Option<AbortCause>,
+    notes: &SourceNotes<'_, R>,
+) -> Carried
+    ensures { result ≡ carried_after stream aborted done.now }
+{
+    match done {
+        Ok(timed) => {
+            let TimedReport { report, reading } = timed;
+            let (bytes, ending) = (report.written, report.ending);
+            end_stream(stream, bytes, *reading, ending, aborted, notes)
+        }
+        Err(fault) => break_stream(link, stream, fault, notes),
+    }
 }

@@ -11,14 +11,14 @@ use std::sync::Wait;
 use std::time::Clock;
 use tox_link::{LinkFault, Progress, SCRATCH_SIZE};
 use tox_log::StreamNotes;
-use tox_sockets::{LinkSockets, LinkStart};
+use tox_sockets::{LinkSockets, LinkStart, SinceStart};
 use tox_time::Stream;
 
 /// The state of a direction.
 #[derive(Drop)]
 pub(crate) enum DirectionState<'r, R> {
     Going(Flow<'r, R>),
-    Ended(EndedFlow),
+    Ended(EndedFlow<'r, R>),
     /// It is being driven.
     Driven,
 }
@@ -132,11 +132,11 @@ impl<'r, R: Clock + Wait> OpenDirection<'r, R> {
     }
 
     /// Drives it for its turn, and returns the answer. A direction that has ended waits.
-    pub(crate) fn run<'a>(
+    pub(crate) fn run(
         &mut self,
-        rt: &'a R,
+        rt: &'r R,
         alloc: Global,
-        sockets: &'a LinkSockets,
+        sockets: &LinkSockets,
         start: LinkStart,
         scratch: &mut [u8; SCRATCH_SIZE],
     ) -> Result<Progress, LinkFault>
@@ -150,7 +150,8 @@ impl<'r, R: Clock + Wait> OpenDirection<'r, R> {
                 return Ok(Progress::Waits(None));
             }
         };
-        let (state, answer) = flow.advance(rt, alloc, sockets, start, scratch);
+        let clock = SinceStart::new(rt, start);
+        let (state, answer) = flow.advance(alloc, &clock, sockets, scratch);
         self.state = state;
         answer
     }

@@ -43,7 +43,6 @@ impl<'r, R: Clock + Wait> OpenLink<'r, R> {
     ghost use Rattle.tox_serve.specs.workers.OpenLinks.{Arms, Disarms, IsSameLink, SetsTurn, direction_of, end_of};
     ghost use Rattle.tox_serve.specs.workers.Peers.{other_stream, stream_from};
     ghost use Rattle.tox_serve.specs.workers.Reports.{IsAfterSource, IsAfterTarget, IsNotedSo};
-    ghost use Rattle.tox_serve.specs.workers.Served.{EndsUnder, KeepsCourses};
     ghost use Rattle.tox_serve.specs.workers.Steps.{Runs, needs_timer, worker_instant};
 
     /// A link that was opened, new and without logs. `closing`: its client was reported to have closed its writing half. None if out
@@ -71,8 +70,8 @@ impl<'r, R: Clock + Wait> OpenLink<'r, R> {
             live,
         } = opened;
         let Courses { up, down } = courses;
-        let up = Flow::new(rt, alloc, &sockets, up, closing)?;
-        let down = Flow::new(rt, alloc, &sockets, down, false)?;
+        let up = Flow::new(rt, alloc, &sockets, since.start, up, closing)?;
+        let down = Flow::new(rt, alloc, &sockets, since.start, down, false)?;
         let link = OpenLink {
             number,
             proxy,
@@ -106,7 +105,6 @@ impl<'r, R: Clock + Wait> OpenLink<'r, R> {
             × (self.new.down.armed ≡ self.old.down.armed) }
         ensures turns { (self.new.up.has_turn ≡ self.old.up.has_turn)
             × (self.new.down.has_turn ≡ self.old.down.has_turn) }
-        ensures courses { KeepsCourses self.old self.new }
         ensures same { IsSameLink self.old self.new }
     {
         self.up.log(up);
@@ -120,7 +118,6 @@ impl<'r, R: Clock + Wait> OpenLink<'r, R> {
         ensures target { IsAfterTarget event.now
             (direction_of (other_stream (stream_from peer)) self.old)
             (direction_of (other_stream (stream_from peer)) self.new) result.1 }
-        ensures courses { KeepsCourses self.old self.new }
         ensures same { IsSameLink self.old self.new }
     {
         match peer {
@@ -133,7 +130,6 @@ impl<'r, R: Clock + Wait> OpenLink<'r, R> {
     pub(crate) fn claim_turn(&mut self, stream: Stream) -> bool
         ensures claims { result ≡ not (direction_of stream self.old).has_turn }
         ensures claimed { SetsTurn stream true self.old self.new }
-        ensures courses { KeepsCourses self.old self.new }
     {
         match stream {
             Stream::Upstream => self.up.claim_turn(),
@@ -143,8 +139,7 @@ impl<'r, R: Clock + Wait> OpenLink<'r, R> {
 
     /// Takes the turn of a direction.
     pub(crate) fn take_turn(&mut self, stream: Stream)
-        ensures taken { SetsTurn stream false self.old self.new }
-        ensures courses { KeepsCourses self.old self.new }
+        ensures { SetsTurn stream false self.old self.new }
     {
         match stream {
             Stream::Upstream => self.up.take_turn(),
@@ -164,8 +159,7 @@ impl<'r, R: Clock + Wait> OpenLink<'r, R> {
 
     /// A timer of a direction has fired.
     pub(crate) fn disarm(&mut self, stream: Stream, due: u64)
-        ensures disarms { Disarms stream due self.old self.new }
-        ensures courses { KeepsCourses self.old self.new }
+        ensures { Disarms stream due self.old self.new }
     {
         match stream {
             Stream::Upstream => self.up.disarm(due),
@@ -184,7 +178,6 @@ impl<'r, R: Clock + Wait> OpenLink<'r, R> {
     pub(crate) fn arm(&mut self, stream: Stream, due: u64) -> bool
         ensures needs { result ≡ needs_timer (direction_of stream self.old).armed due }
         ensures arms { Arms stream due self.old self.new }
-        ensures courses { KeepsCourses self.old self.new }
     {
         match stream {
             Stream::Upstream => self.up.arm(due),
@@ -203,7 +196,6 @@ impl<'r, R: Clock + Wait> OpenLink<'r, R> {
         ensures runs { Runs (direction_of stream self.old) (direction_of stream self.new) result }
         ensures other { direction_of (other_stream stream) self.new
             ≡ direction_of (other_stream stream) self.old }
-        ensures courses { KeepsCourses self.old self.new }
         ensures same { IsSameLink self.old self.new }
     {
         let start = self.since.start;
@@ -217,7 +209,6 @@ impl<'r, R: Clock + Wait> OpenLink<'r, R> {
     pub(crate) fn break_off(&mut self)
         ensures up { IsBrokenOffFrom StreamOf.Upstream self.old.up.state self.new.up.state }
         ensures down { IsBrokenOffFrom StreamOf.Downstream self.old.down.state self.new.down.state }
-        ensures courses { KeepsCourses self.old self.new }
         ensures same { IsSameLink self.old self.new }
     {
         self.up.break_off(&self.sockets);
@@ -235,7 +226,6 @@ impl<'r, R: Clock + Wait> OpenLink<'r, R> {
     pub(crate) fn end(&self) -> Option<LinkEnd>
         ensures number { IfSome result (λ end. end.number ≡ self.now.number) }
         ensures both { result ≡ end_of self.now }
-        ensures report { EndsUnder self.now result }
     {
         let up = self.up.carried()?;
         let down = self.down.carried()?;

@@ -26,9 +26,9 @@ pub(crate) fn make_link<'r, R: ServeRuntime>(
 ) -> Option<Box<OpenLink<'r, R>>>
     ensures link { IfSome result (λ link. IsLinkOf client link.value) }
     ensures up { IfSome result (λ link. HasCourse run.now links.now.proxy.now.name
-        links.now.place client.taken.number StreamOf.Upstream client.closing link.value.up) }
+        client.taken.number StreamOf.Upstream client.closing link.value.up) }
     ensures down { IfSome result (λ link. HasCourse run.now links.now.proxy.now.name
-        links.now.place client.taken.number StreamOf.Downstream false link.value.down) }
+        client.taken.number StreamOf.Downstream false link.value.down) }
 {
     let Client {
         taken,
@@ -36,8 +36,8 @@ pub(crate) fn make_link<'r, R: ServeRuntime>(
         since,
         closing,
     } = client;
-    let number = taken.number;
     let opened = open_link(rt, run, links, taken, reached)?;
+    let number = opened.number;
     let mut link = link_of(rt, run, opened, proxy, since, closing)?;
     // The logs are begun once nothing can fail any more: a link that is broken before has logs that tell just that.
     let up = notes_of(rt, run, links, number, Stream::Upstream);

@@ -7,10 +7,10 @@ invariant_of-waiting g c = let ready = c.drive.ensures.ready in record {
   held = ready.held;
   read = instant-of _ ready.read;
   begun = ready.begun;
-  readable = rw c.into_state-in-Ok-Waits.ensures ready.working;
-  failed = rw c.into_state-in-Ok-Waits.ensures (fault-of _ _ ready.cause);
+  readable = ready.working;
+  failed = fault-of _ _ ready.cause;
   unlimited = unlimited-of _ _ ready.cause;
-  writable = rw (c.into_state-in-Ok-Waits-2.ensures, c.if-fail_if_aborted.ensures) c.in-Ok-Waits.ensures.working;
+  writable = rw c.if-fail_if_aborted.ensures c.in-Ok-Waits.ensures.working;
 }
 
 pub invariant_of-flow : goal.invariant_of-flow
@@ -18,8 +18,8 @@ invariant_of-flow g c = let ready = c.drive.ensures.ready in record {
   held = ready.held;
   read = instant-of _ ready.read;
   begun = ready.begun;
-  readable = rw c.into_state-in-Ok-Again.ensures ready.working;
-  failed = rw c.into_state-in-Ok-Again.ensures (fault-of _ _ ready.cause);
+  readable = ready.working;
+  failed = fault-of _ _ ready.cause;
   unlimited = unlimited-of _ _ ready.cause;
-  writable = rw c.into_state-in-Ok-Again-2.ensures c.in-Ok-Again.ensures.working;
+  writable = c.in-Ok-Again.ensures.working;
 }

@@ -11,7 +11,7 @@ returns-in-Some-Open g c =
     settled-open c.args.turn.key link given _ _ _ _ (rw c.in-Some-Open.field-0-is at c.in-Some-Open.ensures.takes) c.in-Some-Open.ensures.leaves
     (rw c.give.ensures.same.0 at c.settle.ensures.settled) (λ settled. record {
       over = c.disarm.new.self;
-      disarms = rw c.deref_mut.ensures.value at c.disarm.ensures.disarms;
+      disarms = rw c.deref_mut.ensures.value at c.disarm.ensures;
       given = given;
       gives = rw c.settle.ensures.same.1 (rw c.deref_mut-in-Some-Open.ensures.value at c.give.ensures.given);
       settled = settled;

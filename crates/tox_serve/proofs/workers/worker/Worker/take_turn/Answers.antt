@@ -10,7 +10,7 @@ returns-in-Some-Open g c =
     settled-open c.args.turn.key link driven _ _ _ _ (rw c.in-Some-Open.field-0-is at c.in-Some-Open.ensures.takes) c.in-Some-Open.ensures.leaves
     (rw c.run_turn.ensures.same at c.settle.ensures.settled) (λ settled. record {
       taken = c.take_turn.new.self;
-      takes = rw c.deref_mut.ensures.value at c.take_turn.ensures.taken;
+      takes = rw c.deref_mut.ensures.value at c.take_turn.ensures;
       driven = driven;
       runs = rw (c.settle.ensures.same.0, c.settle.ensures.same.1) (rw c.deref_mut-in-Some-Open.ensures.value at c.run_turn.ensures.runs);
       settled = settled;
