@@ -176,10 +176,13 @@ def unread_lines_hold_up_no_error(program, folder):
             with open(reads) as file:
                 lines = file.read().splitlines()
             check(process.wait(LIMIT) == 0, f"it ended with status {process.returncode}")
+            rest = process.stderr.read()
         finally:
             process.kill()
     check(warning.startswith("toxi: warning: rule 1 never applies"), f"it warned `{warning}`")
     check(first == "toxi: broken shop 1: upstream 127.0.0.1:1: connection refused\n", f"it told `{first}`")
     # Of two links that two workers break at once either may come first.
     check(re.fullmatch(r"toxi: broken shop (?!1:)\d+: upstream 127.0.0.1:1: connection refused, and \d+ more\n", more), f"it told `{more}`")
+    told = sum(1 + int(count or 0) for count in re.findall(r"^toxi: broken shop \d+: .*?(?:, and (\d+) more)?$", first + more + rest, re.M))
+    check(told == 200, f"of 200 broken links it told {told}: `{more}{rest}`")
     check(lines[-1] == "total shop 200 up 0 down 0", f"the last line is `{lines[-1]}`")
